@@ -1,0 +1,11 @@
+pub mod Scalars
+pub mod Sums
+pub mod Coded
+pub mod Swaps
+pub mod Elimination
+pub mod Crossing
+pub mod Solving
+pub mod Entries
+pub mod Clearing
+pub mod Reducing
+pub mod Casts

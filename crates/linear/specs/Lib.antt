@@ -1,0 +1,4 @@
+pub mod Systems
+pub mod Pivots
+pub mod Reductions
+pub mod Casting
