@@ -71,7 +71,8 @@ module _ {o : Operations} (laws : Laws o) where
     nonzero = λ e. let z : _≡_ {A = ℕ} 0 1 = sym e ∙ ap (λ x. x .0) (s .one-there) in omega arith;
   }
 
-  zero-null : (n : ℕ) (a : ℕ → ℕ → ℕ) → Null o n a (λ c. 0)
+  -- the zero vector is sent to zero
+  pub zero-null : (n : ℕ) (a : ℕ → ℕ → ℕ) → Null o n a (λ c. 0)
   unfolding coded
   zero-null n a =
       solves-from n a (λ r. 0) (λ c. coded laws .nil) (λ i l. zero-code laws)

@@ -1,0 +1,10 @@
+pub mod Casts
+pub mod Hiding
+pub mod LaneSystem
+pub mod LaidOut
+pub mod Nulls
+pub mod OneLane
+pub mod OneWord
+pub mod Opening
+pub mod Stores
+pub mod Words

@@ -1,0 +1,5 @@
+pub mod Groups
+pub mod Scheme
+pub mod Secrecy
+pub mod Systems
+pub mod Worked
