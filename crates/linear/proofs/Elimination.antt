@@ -1,10 +1,10 @@
--- Elimination over any field, as maps on columns of n numbers. Assumes nothing.
---   Faithful      a map that keeps sums and multiples, and tells different columns apart
---   Reached       such a map, under which the first k columns of a matrix are unit columns
---   pivoted       the column after a pivot's step: rows swapped, the pivot's row scaled, the other rows cleared
---   reached-full  all columns done: every right side has exactly one solution
---   reached-null  no pivot in column k: a vector with 1 at k and 0 after it is sent to 0
---   alternative   one or the other, for every square matrix
+-- Elimination over any field, as faithful maps on columns. Assumes nothing.
+--   Reached         a faithful map under which the first k columns of a matrix are unit columns
+--   reached-solves, reached-only
+--                   all columns done: every right side has exactly one solution
+--   reached-null    no pivot in column k: a vector with 1 at k and 0 after it is sent to 0
+--   reached-more    a pivot's step: one column more
+--   alternative     all columns done or a vector that is sent to 0, for every square matrix
 use mathlib.Core.Path.{_≡_, refl, sym, ap, ap₂, fun-ext, _∙_}
 use mathlib.Core.Bool.{cond}
 use mathlib.Core.Logic.{_≢_, _⊎_, inl, inr, ⊎-elim}
@@ -16,66 +16,23 @@ use Rattle.linear.specs.Pivots.{swapped}
 use Rattle.linear.proofs.Swaps.{swapped-second, swapped-other, swapped-below, swapped-back}
 use Rattle.linear.proofs.Scalars.{Scalars, neg-add, add-cancel, add-middle, mul-nil, nil-mul, one-mul, mul-left-comm, mul-cancel}
 use Rattle.linear.proofs.Sums.{total, unit, total-more, total-cong, total-nil, total-split, total-one, unit-same, unit-other, total-pick}
+use Rattle.linear.proofs.Faithful.{Faithful, faithful-id, faithful-after, faithful-nil, faithful-times}
+use Rattle.linear.proofs.Pivoting.{pivoted, pivoted-faithful, pivoted-keeps, pivoted-clears}
 
 module _ {K : Type 0} (F : Scalars K) where
-  -- a map on columns of n numbers that keeps sums and multiples, and tells different columns apart
-  pub record Faithful (n : ℕ) (T : (ℕ → K) → ℕ → K) : Type 0 where
-    pub same : (u v : ℕ → K) → ((r : ℕ) → r < n → u r ≡ v r) → (r : ℕ) → r < n → T u r ≡ T v r
-    pub sums : (u v : ℕ → K) (r : ℕ) → r < n → T (λ i. F .add (u i) (v i)) r ≡ F .add (T u r) (T v r)
-    pub multiples : (a : K) (u : ℕ → K) (r : ℕ) → r < n → T (λ i. F .mul a (u i)) r ≡ F .mul a (T u r)
-    pub apart : (u v : ℕ → K) → ((r : ℕ) → r < n → T u r ≡ T v r) → (r : ℕ) → r < n → u r ≡ v r
-
-  pub faithful-id : (n : ℕ) → Faithful n (λ u. u)
-  faithful-id n = record {
-    same = λ u v h. h;
-    sums = λ u v r l. refl;
-    multiples = λ a u r l. refl;
-    apart = λ u v h. h;
-  }
-
-  -- one map after another
-  pub faithful-after : (n : ℕ) (S T : (ℕ → K) → ℕ → K) → Faithful n S → Faithful n T → Faithful n (λ u. S (T u))
-  faithful-after n S T s t = record {
-    same = λ u v h. s .same (T u) (T v) (t .same u v h);
-    sums = λ u v r l.
-        s .same (T (λ i. F .add (u i) (v i))) (λ i. F .add (T u i) (T v i)) (t .sums u v) r l ∙ s .sums (T u) (T v) r l;
-    multiples = λ a u r l.
-        s .same (T (λ i. F .mul a (u i))) (λ i. F .mul a (T u i)) (t .multiples a u) r l ∙ s .multiples a (T u) r l;
-    apart = λ u v h. t .apart u v (s .apart (T u) (T v) h);
-  }
-
-  module _ (n : ℕ) (T : (ℕ → K) → ℕ → K) (t : Faithful n T) where
-    pub faithful-nil : (r : ℕ) → r < n → T (λ i. F .nil) r ≡ F .nil
-    faithful-nil r l =
-        ap (λ u. T u r) (fun-ext (λ i. sym (nil-mul F (F .nil))))
-        ∙ t .multiples (F .nil) (λ i. F .nil) r l
-        ∙ nil-mul F (T (λ i. F .nil) r)
-
-    -- a matrix times a vector, mapped, is the mapped columns times the vector
-    pub faithful-times : (m : ℕ) (a : ℕ → ℕ → K) (x : ℕ → K) (r : ℕ) → r < n
-        → T (λ i. total F m (λ c. F .mul (a i c) (x c))) r ≡ total F m (λ c. F .mul (T (λ i. a i c) r) (x c))
-    unfolding total
-    faithful-times zero a x r l = faithful-nil r l
-    faithful-times (suc m) a x r l =
-        t .sums (λ i. total F m (λ c. F .mul (a i c) (x c))) (λ i. F .mul (a i m) (x m)) r l
-        ∙ ap₂ (F .add) (faithful-times m a x r l)
-        (ap (λ u. T u r) (fun-ext (λ i. F .mul-comm (a i m) (x m)))
-        ∙ t .multiples (x m) (λ i. a i m) r l
-        ∙ F .mul-comm (x m) (T (λ i. a i m) r))
-
   -- a faithful map under which the first k columns of the matrix a are unit columns
   pub record Reached (n : ℕ) (a : ℕ → ℕ → K) (k : ℕ) (T : (ℕ → K) → ℕ → K) : Type 0 where
-    pub faithful : Faithful n T
+    pub faithful : Faithful F n T
     pub units : (c : ℕ) → c < k → (r : ℕ) → r < n → T (λ i. a i c) r ≡ unit F c r
 
   pub reached-none : (n : ℕ) (a : ℕ → ℕ → K) → Reached n a 0 (λ u. u)
-  reached-none n a = record { faithful = faithful-id n; units = λ c h. absurd (omega arith) }
+  reached-none n a = record { faithful = faithful-id F n; units = λ c h. absurd (omega arith) }
 
   module _ (n : ℕ) (a : ℕ → ℕ → K) (T : (ℕ → K) → ℕ → K) where
     -- all columns done: what a vector is sent to is mapped back to the vector
     reached-back : Reached n a n T → (x : ℕ → K) (r : ℕ) → r < n → T (λ i. total F n (λ c. F .mul (a i c) (x c))) r ≡ x r
     reached-back t x r l =
-        faithful-times n T (t .faithful) n a x r l
+        faithful-times F n T (t .faithful) n a x r l
         ∙ total-cong F n (λ c. F .mul (T (λ i. a i c) r) (x c)) (λ c. F .mul (unit F c r) (x c))
         (λ c h. ap (λ y. F .mul y (x c)) (t .units c h r l))
         ∙ total-pick F n r x l
@@ -110,9 +67,9 @@ module _ {K : Type 0} (F : Scalars K) where
         early g =
             sym (ap (λ y. F .mul y (x c)) (t .units c g c l ∙ unit-same F c) ∙ one-mul F (x c))
             ∙ sym (total-one F n c term l others)
-            ∙ sym (faithful-times n T (t .faithful) n a x c l)
+            ∙ sym (faithful-times F n T (t .faithful) n a x c l)
             ∙ t .faithful .same (λ i. total F n (λ j. F .mul (a i j) (x j))) (λ i. F .nil) h c l
-            ∙ faithful-nil n T (t .faithful) c l
+            ∙ faithful-nil F n T (t .faithful) c l
 
     -- the vector that is sent to 0 where column k has no pivot: 1 at k, 0 after it
     abbrev pub null : ℕ → ℕ → K
@@ -131,7 +88,7 @@ module _ {K : Type 0} (F : Scalars K) where
     reached-null k t hk none =
         t .faithful .apart (λ i. total F n (λ c. F .mul (a i c) (null k c))) (λ i. F .nil)
         (λ r l.
-        faithful-times n T (t .faithful) n a (null k) r l ∙ vanishes r l ∙ sym (faithful-nil n T (t .faithful) r l))
+        faithful-times F n T (t .faithful) n a (null k) r l ∙ vanishes r l ∙ sym (faithful-nil F n T (t .faithful) r l))
       where
         term : ℕ → ℕ → K
         term r c = F .mul (T (λ i. a i c) r) (null k c)
@@ -175,142 +132,21 @@ module _ {K : Type 0} (F : Scalars K) where
             (λ i h. ap (F .mul (T (λ j. a j (suc k + i)) r)) (null-after k (suc k + i) (omega arith)) ∙ mul-nil F (T (λ j. a j (suc k + i)) r)))
             ∙ F .add-nil (F .nil)
 
-  -- a pivot's step on a column: rows k and p change places, row k is multiplied by d, and each other row r has g r times
-  -- row k added to it
-  abbrev pub pivoted : ℕ → ℕ → K → (ℕ → K) → (ℕ → K) → ℕ → K
-  pivoted k p d g u r =
-      cond (eqb r k) (F .mul d (u p)) (F .add (u (swapped k p r)) (F .mul (g r) (F .mul d (u p))))
-
-  module _ (n k p : ℕ) (d : K) (g : ℕ → K) where
-    pub pivoted-at : (u : ℕ → K) (r : ℕ) → r ≡ k → pivoted k p d g u r ≡ F .mul d (u p)
-    pivoted-at u r e = cond-true (eqb r k) _ _ (eq-eqb r k e)
-
-    pub pivoted-off : (u : ℕ → K) (r : ℕ) → r ≢ k
-        → pivoted k p d g u r ≡ F .add (u (swapped k p r)) (F .mul (g r) (F .mul d (u p)))
-    pivoted-off u r a = cond-false (eqb r k) _ _ (ne-eqb r k a)
-
-    pivoted-same : k < n → p < n → (u v : ℕ → K) → ((r : ℕ) → r < n → u r ≡ v r)
-        → (r : ℕ) → r < n → pivoted k p d g u r ≡ pivoted k p d g v r
-    pivoted-same hk hp u v h r l =
-        let e = h p hp in
-        let s = h (swapped k p r) (swapped-below n k p r hk hp l) in
-        ap₂ (λ x y. cond (eqb r k) (F .mul d x) (F .add y (F .mul (g r) (F .mul d x)))) e s
-
-    pivoted-sums : (u v : ℕ → K) (r : ℕ)
-        → pivoted k p d g (λ i. F .add (u i) (v i)) r ≡ F .add (pivoted k p d g u r) (pivoted k p d g v r)
-    pivoted-sums u v r =
-        ⊎-elim
-        (λ e.
-        pivoted-at (λ i. F .add (u i) (v i)) r e
-        ∙ F .mul-add d (u p) (v p)
-        ∙ sym (ap₂ (F .add) (pivoted-at u r e) (pivoted-at v r e)))
-        (λ a.
-        pivoted-off (λ i. F .add (u i) (v i)) r a
-        ∙ ap (F .add (F .add (u (swapped k p r)) (v (swapped k p r))))
-        (ap (F .mul (g r)) (F .mul-add d (u p) (v p)) ∙ F .mul-add (g r) (F .mul d (u p)) (F .mul d (v p)))
-        ∙ add-middle F (u (swapped k p r)) (v (swapped k p r)) (F .mul (g r) (F .mul d (u p))) (F .mul (g r) (F .mul d (v p)))
-        ∙ sym (ap₂ (F .add) (pivoted-off u r a) (pivoted-off v r a)))
-        (cases-eq r k)
-
-    pivoted-multiples : (b : K) (u : ℕ → K) (r : ℕ)
-        → pivoted k p d g (λ i. F .mul b (u i)) r ≡ F .mul b (pivoted k p d g u r)
-    pivoted-multiples b u r =
-        ⊎-elim
-        (λ e.
-        pivoted-at (λ i. F .mul b (u i)) r e ∙ mul-left-comm F d b (u p) ∙ sym (ap (F .mul b) (pivoted-at u r e)))
-        (λ a.
-        pivoted-off (λ i. F .mul b (u i)) r a
-        ∙ ap (F .add (F .mul b (u (swapped k p r))))
-        (ap (F .mul (g r)) (mul-left-comm F d b (u p)) ∙ mul-left-comm F (g r) b (F .mul d (u p)))
-        ∙ sym (F .mul-add b (u (swapped k p r)) (F .mul (g r) (F .mul d (u p))))
-        ∙ sym (ap (F .mul b) (pivoted-off u r a)))
-        (cases-eq r k)
-
-    pivoted-apart : k < n → p < n → (e : K) → F .mul e d ≡ F .one → (u v : ℕ → K)
-        → ((r : ℕ) → r < n → pivoted k p d g u r ≡ pivoted k p d g v r) → (r : ℕ) → r < n → u r ≡ v r
-    pivoted-apart hk hp e inv u v h r l =
-        let scaled : F .mul d (u p) ≡ F .mul d (v p) = sym (pivoted-at u k refl) ∙ h k hk ∙ pivoted-at v k refl in
-        ⊎-elim
-        (λ s. ap u s ∙ mul-cancel F e d (u p) (v p) inv scaled ∙ ap v (sym s))
-        (λ a.
-        let q = swapped k p r in
-        let back = swapped-back k p r a in
-        let here = h q (swapped-below n k p r hk hp l) in
-        let cleared : F .add (u (swapped k p q)) (F .mul (g q) (F .mul d (u p)))
-        ≡ F .add (v (swapped k p q)) (F .mul (g q) (F .mul d (u p)))
-        = sym (pivoted-off u q (back .1))
-        ∙ here
-        ∙ pivoted-off v q (back .1)
-        ∙ ap (λ x. F .add (v (swapped k p q)) (F .mul (g q) x)) (sym scaled) in
-        ap u (sym (back .0))
-        ∙ add-cancel F (u (swapped k p q)) (v (swapped k p q)) (F .mul (g q) (F .mul d (u p))) cleared
-        ∙ ap v (back .0))
-        (cases-eq r p)
-
-    pub pivoted-faithful : k < n → p < n → (e : K) → F .mul e d ≡ F .one → Faithful n (pivoted k p d g)
-    pivoted-faithful hk hp e inv = record {
-      same = pivoted-same hk hp;
-      sums = λ u v r l. pivoted-sums u v r;
-      multiples = λ b u r l. pivoted-multiples b u r;
-      apart = pivoted-apart hk hp e inv;
-    }
-
-    -- a unit column that is done stays as it is
-    pub pivoted-keeps : k ≤ p → p < n → (u : ℕ → K) (c : ℕ) → c < k → ((r : ℕ) → r < n → u r ≡ unit F c r)
-        → (r : ℕ) → r < n → pivoted k p d g u r ≡ unit F c r
-    pivoted-keeps hk hp u c hc h r l =
-        ⊎-elim
-        (λ e. pivoted-at u r e ∙ scaled ∙ sym (unit-other F c r (λ s. omega arith)))
-        (λ a.
-        pivoted-off u r a
-        ∙ ap₂ (F .add) (h (swapped k p r) (swapped-below n k p r (omega arith) hp l) ∙ moved r a)
-        (ap (F .mul (g r)) scaled ∙ mul-nil F (g r))
-        ∙ F .add-nil (unit F c r))
-        (cases-eq r k)
-      where
-        scaled : F .mul d (u p) ≡ F .nil
-        scaled = ap (F .mul d) (h p hp ∙ unit-other F c p (λ s. omega arith)) ∙ mul-nil F d
-
-        moved : (r : ℕ) → r ≢ k → unit F c (swapped k p r) ≡ unit F c r
-        moved r a =
-            ⊎-elim
-            (λ s.
-            ap (unit F c) (swapped-second k p r a s)
-            ∙ unit-other F c k (λ x. omega arith)
-            ∙ sym (unit-other F c r (λ x. omega arith)))
-            (λ b. ap (unit F c) (swapped-other k p r a b))
-            (cases-eq r p)
-
-    -- the pivot's column becomes a unit column
-    pub pivoted-clears : (u : ℕ → K) → F .mul (u p) d ≡ F .one → ((r : ℕ) → r < n → r ≢ k → g r ≡ F .neg (u (swapped k p r)))
-        → (r : ℕ) → r < n → pivoted k p d g u r ≡ unit F k r
-    pivoted-clears u inv h r l =
-        let scaled : F .mul d (u p) ≡ F .one = F .mul-comm d (u p) ∙ inv in
-        ⊎-elim
-        (λ e. pivoted-at u r e ∙ scaled ∙ sym (ap (unit F k) e ∙ unit-same F k))
-        (λ a.
-        let x = u (swapped k p r) in
-        pivoted-off u r a
-        ∙ ap (F .add x) (ap₂ (F .mul) (h r l a) scaled ∙ F .mul-one (F .neg x))
-        ∙ F .add-neg x
-        ∙ sym (unit-other F k r (λ s. a (sym s))))
-        (cases-eq r k)
-
   -- one column more
   pub reached-more : (n : ℕ) (a : ℕ → ℕ → K) (k : ℕ) (T : (ℕ → K) → ℕ → K) → Reached n a k T
       → (p : ℕ) (d : K) (g : ℕ → K) → k ≤ p → p < n → F .mul (T (λ i. a i k) p) d ≡ F .one
-      → ((r : ℕ) → r < n → r ≢ k → g r ≡ F .neg (T (λ i. a i k) (swapped k p r))) → Reached n a (suc k) (λ u. pivoted k p d g (T u))
+      → ((r : ℕ) → r < n → r ≢ k → g r ≡ F .neg (T (λ i. a i k) (swapped k p r))) → Reached n a (suc k) (λ u. pivoted F k p d g (T u))
   reached-more n a k T t p d g hk hp inv h = record {
     faithful =
-        faithful-after n (pivoted k p d g) T (pivoted-faithful n k p d g (omega arith) hp (T (λ i. a i k) p) inv) (t .faithful);
+        faithful-after F n (pivoted F k p d g) T (pivoted-faithful F n k p d g (omega arith) hp (T (λ i. a i k) p) inv) (t .faithful);
     units = λ c hc r l.
         ⊎-elim
         (λ e.
-        pivoted-keeps n k p d g hk hp (T (λ i. a i c)) c e (t .units c e) r l)
+        pivoted-keeps F n k p d g hk hp (T (λ i. a i c)) c e (t .units c e) r l)
         (λ e.
         let same : k ≡ c = omega arith in
-        let at : pivoted k p d g (T (λ i. a i k)) r ≡ unit F k r = pivoted-clears n k p d g (T (λ i. a i k)) inv h r l in
-        ap (λ j. pivoted k p d g (T (λ i. a i j)) r) (sym same) ∙ at ∙ ap (λ j. unit F j r) same)
+        let at : pivoted F k p d g (T (λ i. a i k)) r ≡ unit F k r = pivoted-clears F n k p d g (T (λ i. a i k)) inv h r l in
+        ap (λ j. pivoted F k p d g (T (λ i. a i j)) r) (sym same) ∙ at ∙ ap (λ j. unit F j r) same)
         (cases-lt c k);
   }
 
@@ -363,7 +199,7 @@ module _ {K : Type 0} (F : Scalars K) where
           let i = F .mul-inverse (u (w .row)) (w .nonzero) in
           let g : ℕ → K = λ r. F .neg (u (swapped k (w .row) r)) in
           inl
-          ((λ v. pivoted k (w .row) (i .0) g (t .0 v)), reached-more n a k (t .0) (t .1) (w .row) (i .0) g (w .from) (w .below) (i .1) (λ r l b. refl)))
+          ((λ v. pivoted F k (w .row) (i .0) g (t .0 v)), reached-more n a k (t .0) (t .1) (w .row) (i .0) g (w .from) (w .below) (i .1) (λ r l b. refl)))
           (λ none.
           inr
           (record {

@@ -2,6 +2,8 @@ pub mod Scalars
 pub mod Sums
 pub mod Coded
 pub mod Swaps
+pub mod Faithful
+pub mod Pivoting
 pub mod Elimination
 pub mod Crossing
 pub mod Solving

@@ -20,7 +20,9 @@ use Rattle.linear.proofs.Scalars.{Scalars}
 use Rattle.linear.proofs.Sums.{total, total-cong}
 use Rattle.linear.proofs.Coded.{Code, coded, code, code-of, code-inj, code-zero, code-one, code-add, code-neg, code-mul, code-products, sum-below, zero-code, one-code}
 use Rattle.linear.proofs.Crossing.{over, along, solves-from, solves-to, reached-solution, reached-regular}
-use Rattle.linear.proofs.Elimination.{faithful-times, faithful-nil, Reached, reached-none, reached-more, reached-first, reached-null, null, null-at, null-after, pivoted, pivoted-at, pivoted-off, pivoted-keeps}
+use Rattle.linear.proofs.Elimination.{Reached, reached-none, reached-more, reached-first, reached-null, null, null-at, null-after}
+use Rattle.linear.proofs.Faithful.{faithful-times, faithful-nil}
+use Rattle.linear.proofs.Pivoting.{pivoted, pivoted-at, pivoted-off, pivoted-keeps}
 use Rattle.linear.proofs.Entries.{past-before, past-from}
 use Rattle.linear.proofs.Solving.{solves-same}
 use Rattle.linear.proofs.Swaps.{swapped-below}

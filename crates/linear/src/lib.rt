@@ -2,3 +2,5 @@
 pub mod casting;
 pub mod reduction;
 mod rows;
+#[cfg(test)]
+mod tests;

@@ -46,7 +46,8 @@ fn is_matrix<F: Field>(m: &[u8], rows: usize, width: usize) -> bool
 
 // Reduces the matrix of `rows` rows and `width` columns in `m`: its first `rows` columns are the coefficients of a system,
 // the columns after them right sides. Full: each right side has given way to its solution. Refused, with nothing changed,
-// if `m` is no such matrix of codes. At most rows² × width products, since no step works on columns that are done.
+// if `m` is no such matrix of codes. At most rows² × width products and one reciprocal a column, since no step works on
+// columns that are done.
 pub fn reduce<F: Field>(m: &mut [u8], rows: usize, width: usize) -> Option<Reduction>
     ensures reduced { λ r. ⌜ Reduced (F·Field .ops) rows width (now (m .entry)) (now (m .exit)) r ⌝ }
     ensures alternative { λ _. ⌜ Alternative (F·Field .ops) ⌝ }

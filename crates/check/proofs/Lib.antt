@@ -1,0 +1,5 @@
+pub mod Answering
+pub mod Faults
+pub mod First
+pub mod Ranks
+pub mod Searching

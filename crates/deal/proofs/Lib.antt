@@ -1,0 +1,10 @@
+mod Tables
+mod Tallies
+mod Accounts
+mod Groups
+mod Onlooker
+mod Faults
+mod Stores
+mod Laws
+mod Cards
+mod Places

@@ -1,0 +1,38 @@
+// Text lines of plans, rows, cards, keys and dummy keys: a reader over lent text, and values that can be written.
+mod digits;
+mod entry;
+mod fault;
+mod hex;
+mod kind;
+mod limits;
+mod line;
+mod mark;
+mod part;
+mod read;
+mod reader;
+mod shape;
+mod trips;
+mod wanted;
+mod write;
+
+pub use entry::Entry;
+pub use entry::EntryDisplay;
+pub use entry::NO_LINE;
+pub use fault::Fault;
+pub use fault::FaultDebug;
+pub use fault::FaultEq;
+pub use fault::FaultPartialEq;
+pub use kind::Kind;
+pub use line::Line;
+pub use mark::DealMark;
+pub use mark::DealMarkDebug;
+pub use mark::DealMarkEq;
+pub use mark::DealMarkPartialEq;
+pub use mark::MARK_BYTES;
+pub use mark::MarkNumber;
+pub use part::Part;
+pub use reader::LONGEST_TEXT;
+pub use reader::Reader;
+pub use trips::round_trips;
+pub use trips::worked_lines;
+pub use wanted::Wanted;

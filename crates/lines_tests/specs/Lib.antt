@@ -1,0 +1,1 @@
+-- Nothing is specified here: the crate has tests only. Assumes nothing.

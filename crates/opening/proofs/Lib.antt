@@ -1,0 +1,11 @@
+pub mod Answering
+pub mod Deals
+pub mod Faultless
+pub mod Gathering
+pub mod GivingBack
+pub mod Limits
+pub mod Loose
+pub mod Settling
+pub mod OneAnswer
+pub mod Summing
+pub mod Systems

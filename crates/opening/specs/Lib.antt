@@ -1,0 +1,4 @@
+pub mod Answers
+pub mod Quorums
+pub mod Tables
+pub mod Words
