@@ -1,0 +1,5 @@
+-- The lemmas of this crate.
+mod Blocks
+mod Chain
+mod Heads
+mod Turns
