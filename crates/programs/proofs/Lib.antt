@@ -1,5 +1,7 @@
 -- The lemmas of this crate.
 mod Blocks
 mod Chain
+mod Deciding
 mod Heads
+mod Inverses
 mod Turns
