@@ -9,14 +9,12 @@
 --   data-of     the data of cards of a store, one after the other
 --   Different   no number stands twice in a list
 --   GivesBack   t different cards of a deal under an admitted plan, in any order, give its key back
---   cleared     what the workspace holds at the end: zeros, or what it held where it is too short
 use mathlib.Core.Path.{_≡_}
 use mathlib.Core.Bool.{true, cond}
 use mathlib.Core.List.{List, [], _∷_, _++_}
 use mathlib.Core.Logic.{_⊎_, _↔_}
 use Prim.Native.Nat.{ℕ, _≤_, _<_}
-use lib.Dec.{ltb}
-use lib.ListN.{length, getD, take, replicate}
+use lib.ListN.{length, getD, take}
 use Rattle.std.specs.Options.{isSome, valueOr}
 use Rattle.std.specs.Results.{isOk}
 use Rattle.std.specs.declared.option.Option.{Option}
@@ -88,6 +86,3 @@ GivesBack o p cards «data» L before after workspace r =
     → «data» ≡ data-of o p (lanes (p .t) L) (store (p .t) L key dummies) cards
     → length before ≡ L → room ≤ workspace
     → (isOk r ≡ true) × (after ≡ key)
-
-abbrev pub cleared : List ℕ → List ℕ
-cleared xs = cond (ltb (length xs) room) xs (replicate (length xs) 0)

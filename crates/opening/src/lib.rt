@@ -7,7 +7,8 @@ mod words;
 
 ghost use mathlib.Core.Path.{_≡_};
 ghost use lib.ListN.{length};
-ghost use Rattle.opening.specs.Answers.{Answered, OnlyAnswer, GivesBack, cleared};
+ghost use Rattle.check.specs.Checks.{cleared};
+ghost use Rattle.opening.specs.Answers.{Answered, OnlyAnswer, GivesBack};
 use check::guard::Guard;
 use check::plan::Checked;
 use field::Field;

@@ -9,6 +9,7 @@ ghost use Rattle.slot.specs.States.{laid, put, taken, emptied};
 use crate::card::Card;
 use crate::memory::State;
 use crate::phase::Event;
+use check::guard::clear;
 use lines::Part;
 
 // How many cards are held.
@@ -34,19 +35,12 @@ fn lay(memory: &mut [u8], at: usize, data: Part<'_>)
     }
 }
 
-// Writes zero into every byte.
-fn zero(bytes: &mut [u8])
-    ensures { λ _. ⌜ now (bytes .exit) ≡ replicate (length (now (bytes .entry))) 0 ⌝ }
-{
-    bytes.fill(0);
-}
-
 // Writes zero into the 70 numbers from a place on.
 fn wipe(memory: &mut [u8], at: usize)
     requires { ⌜ at + 70 ≤ length (now memory) ⌝ }
     ensures { λ _. ⌜ now (memory .exit) ≡ laid (now (memory .entry)) at (replicate width 0) ⌝ }
 {
-    zero(&mut memory[at..at + 70]);
+    clear(&mut memory[at..at + 70]);
 }
 
 impl State {
@@ -84,7 +78,7 @@ impl State {
         requires long { ⌜ length (now self .memory) ≡ 560 ⌝ }
         ensures { λ _. ⌜ now (self .exit) ≡ emptied ⌝ }
     {
-        zero(&mut self.memory);
+        clear(&mut self.memory);
         self.held = [false; 8];
         self.phase.step(Event::Clear, 0);
     }

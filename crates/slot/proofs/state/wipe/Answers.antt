@@ -15,8 +15,8 @@ returns c =
     let at = c .args .at in
     let k : length (take ((at + 70) - at) (drop at m)) ≡ 70 =
     omega (arith, length-take ((at + 70) - at) (drop at m), length-drop at m, c .pre) in
-    let z : c .zero .last .bytes ≡ replicate 70 0 = c .zero .ensures ∙ ap (λ n. replicate n 0) k in
+    let z : c .clear .last .bytes ≡ replicate 70 0 = c .clear .ensures ∙ ap (λ n. replicate n 0) k in
     let e : 70 ≡ length (replicate {A = ℕ} 70 0) = sym (length-replicate {A = ℕ} 70 0) in
-    putMid-paste at ((at + 70) - at) m (c .zero .last .bytes) (replicate 70 0) 70 z (omega arith) e
+    putMid-paste at ((at + 70) - at) m (c .clear .last .bytes) (replicate 70 0) 70 z (omega arith) e
     ∙ paste-all m at (replicate 70 0) 70 e
     ∙ ap (λ n. take at m ++ (replicate 70 0 ++ drop (at + n) m)) e
