@@ -1,8 +1,8 @@
 /* cards.c: a second program for the card set, `cards deal` and `cards open`.
  *
  * It does what the two programs of docs/FORMAT.md do, for both fields of
- * docs/SCHEME.md, and was written from docs/FORMAT.md and docs/SCHEME.md alone:
- * no other source was looked at. Its answers can therefore be held against
+ * docs/SCHEME.md, and was written from a draft of these two pages and the worked
+ * examples: the proved code was not looked at. Its answers can be held against
  * those of the proved programs (checks/compare), and its speed too
  * (checks/bench).
  *
