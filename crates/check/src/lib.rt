@@ -1,4 +1,6 @@
 // A plan is drafted, then admitted, then vetted: each state is a type of its own that borrows the plan's rows for reading.
+#![tactic(auto)]
+
 mod examine;
 pub mod fault;
 mod groups;

@@ -1,5 +1,5 @@
 -- Where a number stands in a store. Assumes nothing.
-use Rattle.std.proofs.Common.{ℕ, zero, suc, ◌+◌, ◌-◌, ◌*◌, ◌<◌, ◌≤◌, subst, mul_assoc, one_mul, mul_zero, mul_one, arith}
+use Rattle.std.proofs.Common.{ℕ, zero, suc, ◌+◌, ◌-◌, ◌*◌, ◌<◌, ◌≤◌, subst, mul_assoc, one-mul, mul-zero, mul-one, arith}
 use native.Mathlib.Nat.{mul-div-le}
 use Rattle.std.proofs.lemmas.Nat.{mul-le}
 use Rattle.sharing.specs.Scheme.{lanes}
@@ -12,13 +12,13 @@ pub record Place (t b i p e : ℕ) : Type 0 where
 
 pub place : (t b i p e : ℕ) → i < t → p < t → e < b → Place t b i p e
 place t b i p e hi hp he = record {
-  piece = omega (arith, mul-le (i * t + p) 1 (i * t + p) b (omega arith) (omega arith), mul_one (i * t + p));
+  piece = omega (arith, mul-le (i * t + p) 1 (i * t + p) b (omega arith) (omega arith), mul-one (i * t + p));
   inside = subst (λ k. (i * t + p) * b + e < k) (mul_assoc t t b) (within (t * t) b (i * t + p) e (within t t i p hi hp) he);
 }
 
 -- where there is a number, there is a lane
 pub lanes_some : (t b x : ℕ) → x < t * b → 0 < b
-lanes_some t zero x lt = absurd (omega (arith, mul_zero t))
+lanes_some t zero x lt = absurd (omega (arith, mul-zero t))
 lanes_some t (suc b) x lt = omega arith
 
 -- a store is small: t times b is at most 71
@@ -30,4 +30,4 @@ store_small t L ht hL = mul-le t (t * lanes t L) 8 71 ht (block_small t L ht hL)
 
 -- and a block of it is no longer than the store
 pub block_inside : (t L : ℕ) → 2 ≤ t → t * lanes t L ≤ t * (t * lanes t L)
-block_inside t L ht = omega (arith, mul-le 1 (t * lanes t L) t (t * lanes t L) (omega arith) (omega arith), one_mul (t * lanes t L))
+block_inside t L ht = omega (arith, mul-le 1 (t * lanes t L) t (t * lanes t L) (omega arith) (omega arith), one-mul (t * lanes t L))

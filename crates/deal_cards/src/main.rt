@@ -1,4 +1,6 @@
 // Deals cards: reads a plan, a key and its dummy keys from standard input, and writes all cards, or the first refusal.
+#![tactic(auto)]
+
 use anyhow::anyhow;
 use programs::dealing::deal_cards;
 use programs::input::{MOST_BYTES, fill};

@@ -1,7 +1,7 @@
 -- Bytes under 11B are a field. Sums and products keep exclusive or, so a law of products need only be tested at the powers
 -- of two; the reciprocal of each byte is tested. Assumes nothing.
 use Rattle.std.specs.Prelude.{◌≡◌, ℕ, zero, suc, ◌*◌, ◌/◌, ◌%◌, ◌^◌, ◌<◌, true, ◌||◌, ◌≢◌, ◌==◌, bit_xor, nat_eq, refl}
-use Rattle.std.proofs.Common.{sym, ap, ap₂, ◌∙◌, ⊎_elim, mul_zero, mul_one, mod-lt, arith}
+use Rattle.std.proofs.Common.{sym, ap, ap₂, ◌∙◌, ⊎_elim, mul-zero, mul-one, mod-lt, arith}
 use Rattle.std.specs.Int.Bits.{xor_zero_r, xor_self, xor_assoc, xor_shifted}
 use Rattle.std.proofs.lemmas.Nat.{xor_comm, xor_lt}
 use Rattle.std.proofs.Math.Pow.{split}
@@ -120,8 +120,8 @@ pub by_zero : (a : ℕ) → by a 0 ≡ 0
 by_zero a = linear_zero (by_right a)
 
 by_bit : (a c : ℕ) → a < 256 → c < 2 → by a c ≡ a * c
-by_bit a zero ha hc = by_zero a ∙ sym (mul_zero a)
-by_bit a (suc zero) ha hc = by_one a ha ∙ sym (mul_one a)
+by_bit a zero ha hc = by_zero a ∙ sym (mul-zero a)
+by_bit a (suc zero) ha hc = by_one a ha ∙ sym (mul-one a)
 by_bit a (suc (suc c)) ha hc = absurd (omega arith)
 
 -- the product with b is twice that with b's bits but the lowest, and a where the lowest is 1

@@ -1,6 +1,6 @@
 -- Functions that keep exclusive or: two of them that agree at the powers of two agree everywhere. Assumes nothing.
 use Rattle.std.specs.Prelude.{◌≡◌, ℕ, zero, suc, ◌*◌, ◌/◌, ◌%◌, ◌^◌, ◌<◌, bit_xor, refl}
-use Rattle.std.proofs.Common.{sym, ap, ap₂, ◌∙◌, add_zero, mul_zero, mul_one, one_mul, zero-mul, mod-lt, one-add, arith, pow_pos, shr_lt}
+use Rattle.std.proofs.Common.{sym, ap, ap₂, ◌∙◌, add-zero, mul-zero, mul-one, one-mul, zero-mul, mod-lt, one-add, arith, pow_pos, shr_lt}
 use Rattle.std.specs.Int.Bits.{xor_zero_r, xor_self, xor_assoc, xor_shifted}
 use Rattle.std.proofs.lemmas.Nat.{xor_comm, xor_shr, xor_mod, xor_block}
 use Rattle.std.proofs.Math.Arith.{lt-one}
@@ -42,9 +42,9 @@ pub linear_shl : (k : ℕ) → Linear (λ x. x * 2 ^ k)
 linear_shl k =
     record {
       keeps = λ x y. sym
-          (ap₂ bit_xor (sym (add_zero (x * 2 ^ k))) (sym (add_zero (y * 2 ^ k)))
+          (ap₂ bit_xor (sym (add-zero (x * 2 ^ k))) (sym (add-zero (y * 2 ^ k)))
           ∙ xor_block k x y 0 0 (pow_pos k) (pow_pos k)
-          ∙ add_zero (bit_xor x y * 2 ^ k));
+          ∙ add-zero (bit_xor x y * 2 ^ k));
     }
 
 pub linear_shr : (k : ℕ) → Linear (λ x. x / 2 ^ k)
@@ -52,14 +52,14 @@ linear_shr k = record { keeps = λ x y. xor_shr x y k }
 
 -- x where the bit c is 1, and else 0
 pub linear_kept : (c : ℕ) → c < 2 → Linear (λ x. x * c)
-linear_kept zero h = record { keeps = λ x y. rw (mul_zero (bit_xor x y), mul_zero x, mul_zero y) }
-linear_kept (suc zero) h = record { keeps = λ x y. rw (mul_one (bit_xor x y), mul_one x, mul_one y) }
+linear_kept zero h = record { keeps = λ x y. rw (mul-zero (bit_xor x y), mul-zero x, mul-zero y) }
+linear_kept (suc zero) h = record { keeps = λ x y. rw (mul-one (bit_xor x y), mul-one x, mul-one y) }
 linear_kept (suc (suc c)) h = absurd (omega arith)
 
 chosen-bits : (c a b : ℕ) → a < 2 → b < 2 → c * bit_xor a b ≡ bit_xor (c * a) (c * b)
-chosen-bits c zero b ha hb = rw (mul_zero c)
-chosen-bits c (suc zero) zero ha hb = rw (mul_zero c, xor_zero_r (c * 1))
-chosen-bits c (suc zero) (suc zero) ha hb = mul_zero c ∙ sym (xor_self (c * 1))
+chosen-bits c zero b ha hb = rw (mul-zero c)
+chosen-bits c (suc zero) zero ha hb = rw (mul-zero c, xor_zero_r (c * 1))
+chosen-bits c (suc zero) (suc zero) ha hb = mul-zero c ∙ sym (xor_self (c * 1))
 chosen-bits c (suc zero) (suc (suc b)) ha hb = absurd (omega arith)
 chosen-bits c (suc (suc a)) b ha hb = absurd (omega arith)
 
@@ -90,7 +90,7 @@ linear_agree {f} {g} p q (suc k) same x h =
 
     at : (c : ℕ) → c < 2 → f (c * 2 ^ k) ≡ g (c * 2 ^ k)
     at zero l = rw (zero-mul (2 ^ k)) (linear_zero p ∙ sym (linear_zero q))
-    at (suc zero) l = rw (one_mul (2 ^ k)) (same k (omega arith))
+    at (suc zero) l = rw (one-mul (2 ^ k)) (same k (omega arith))
     at (suc (suc c)) l = absurd (omega arith)
 
     top : f (x / 2 ^ k * 2 ^ k) ≡ g (x / 2 ^ k * 2 ^ k)

@@ -1,6 +1,6 @@
 -- The numbers modulo 97 keep the laws of a field. Assumes nothing.
 use Rattle.std.specs.Prelude.{◌≡◌, ℕ, ◌+◌, ◌-◌, ◌*◌, ◌/◌, ◌%◌, ◌<◌, ◌≤◌, Bool, ◌||◌, ◌≢◌, ◌⊎◌, Some, None, ◌==◌, refl}
-use Rattle.std.proofs.Common.{sym, ap, ◌∙◌, ⊎_elim, arith, mul_comm, mul_assoc, mul_add}
+use Rattle.std.proofs.Common.{sym, ap, ◌∙◌, ⊎_elim, arith, mul_comm, mul_assoc, mul-add}
 use Rattle.std.proofs.Math.Nat.{mul-add-mod_self_left, add-mod}
 use Rattle.std.proofs.lemmas.Bool.{eqb-true, or_cases}
 use Rattle.field.specs.Codes.{Laws, inverse}
@@ -35,7 +35,7 @@ times_plus : (a b c : ℕ) → times a ((b + c) % 97) ≡ (times a b + times a c
 times_plus a b c =
     times_comm a ((b + c) % 97)
     ∙ mod-mul (b + c) a
-    ∙ ap (λ x. x % 97) (mul_comm (b + c) a ∙ mul_add a b c)
+    ∙ ap (λ x. x % 97) (mul_comm (b + c) a ∙ mul-add a b c)
     ∙ add-mod (a * b) (a * c) 97
 
 -- the power 95 of a number

@@ -1,6 +1,6 @@
 -- Products of polynomials and remainders by 11B keep sums, and a remainder by 11B is the only one. Assumes nothing.
 use Rattle.std.specs.Prelude.{◌≡◌, ℕ, zero, suc, ◌+◌, ◌*◌, ◌/◌, ◌%◌, ◌^◌, ◌<◌, ◌≤◌, ◌⊎◌, bit_xor, refl}
-use Rattle.std.proofs.Common.{sym, ap, ap₂, ◌∙◌, inl, inr, ⊎_elim, add_zero, add-suc, add_comm, mul_zero, mul_one, one_mul, mul_assoc, mod-lt, mod-eq_of_lt, pow-suc, div-lt_iff_lt-mul, one-add, add-one, arith, pow_pos, pow_mono, shr_lt, shr-shr}
+use Rattle.std.proofs.Common.{sym, ap, ap₂, ◌∙◌, inl, inr, ⊎_elim, add-zero, add-suc, add_comm, mul-zero, mul-one, one-mul, mul_assoc, mod-lt, mod-eq_of_lt, pow-suc, div-lt_iff_lt-mul, one-add, add-one, arith, pow_pos, pow_mono, shr_lt, shr-shr}
 use Rattle.std.proofs.Math.Nat.{mod-one}
 use Rattle.std.specs.Int.Bits.{xor_zero_r, xor_self, xor_assoc, shifted_even, shifted_half}
 use Rattle.std.proofs.lemmas.Nat.{xor_comm, xor_shr, xor_lt, shl-shr}
@@ -34,14 +34,14 @@ unfolding times
 times_one a b = xor_zero_r (a * (b % 2))
 
 kept_le : (a c : ℕ) → c < 2 → a * c ≤ a
-kept_le a zero h = omega (arith, mul_zero a)
-kept_le a (suc zero) h = omega (arith, mul_one a)
+kept_le a zero h = omega (arith, mul-zero a)
+kept_le a (suc zero) h = omega (arith, mul-one a)
 kept_le a (suc (suc c)) h = absurd (omega arith)
 
 -- the degree of a product
 pub times_below : (n k a b : ℕ) → a < 2 ^ n → times (suc k) a b < 2 ^ (n + k)
 times_below n zero a b h =
-    rw (times_one a b, add_zero n) (omega (arith, kept_le a (b % 2) (mod-lt b (omega arith))))
+    rw (times_one a b, add-zero n) (omega (arith, kept_le a (b % 2) (mod-lt b (omega arith))))
 times_below n (suc k) a b h =
     rw (times_step (suc k) a b, add-suc n k)
     (xor_lt (suc (n + k)) (a * (b % 2)) (times (suc k) a (b / 2) * 2) low (high (times_below n k a (b / 2) h)))
@@ -70,11 +70,11 @@ times-wide j (suc k) a m =
 
 -- a times x^k
 times_power : (k a c : ℕ) → c < 2 → times (suc k) a (c * 2 ^ k) ≡ a * c * 2 ^ k
-times_power zero a c h = times_one a (c * 1) ∙ rw (mul_one c, mod-eq_of_lt h, mul_one (a * c))
+times_power zero a c h = times_one a (c * 1) ∙ rw (mul-one c, mod-eq_of_lt h, mul-one (a * c))
 times_power (suc k) a c h =
     times_step (suc k) a (c * 2 ^ suc k)
     ∙ ap₂ (λ x y. bit_xor (a * x) (times (suc k) a y * 2)) (shifted_even c k) (shifted_half c k)
-    ∙ ap₂ bit_xor (mul_zero a) (ap (λ x. x * 2) (times_power k a c h))
+    ∙ ap₂ bit_xor (mul-zero a) (ap (λ x. x * 2) (times_power k a c h))
     ∙ mul_assoc (a * c) (2 ^ k) 2
     ∙ ap (λ x. a * c * x) (sym (pow-suc 2 k))
 
@@ -97,7 +97,7 @@ modulus_top k c h =
     ∙ omega arith
 
 no_quotient : (k x : ℕ) → x / 2 ^ k ≡ 0 → x < 2 ^ k
-no_quotient k x e = rw (one_mul (2 ^ k)) at ((div-lt_iff_lt-mul {x = x} {y = 1} (pow_pos k)).0 (omega arith))
+no_quotient k x e = rw (one-mul (2 ^ k)) at ((div-lt_iff_lt-mul {x = x} {y = 1} (pow_pos k)).0 (omega arith))
 
 -- a step takes the highest coefficient off
 taken_off : (k p : ℕ) → p < 2 ^ (8 + suc k) → bit_xor p (0x11B * (p / 2 ^ (8 + k) % 2) * 2 ^ k) < 2 ^ (8 + k)

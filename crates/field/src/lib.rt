@@ -1,4 +1,6 @@
 // Fields of numbers that are written as one-byte codes, and what is written once over all of them.
+#![tactic(auto)]
+
 pub mod gf256;
 pub mod gf97;
 pub mod known;

@@ -2,7 +2,7 @@
 --   Code      a number with a proof that it is a code
 --   code      a number as a code: itself, and 0 where it is none
 --   coded     the field on its codes
-use Rattle.std.proofs.Common.{◌≡◌, ℕ, zero, suc, ◌+◌, ◌<◌, ◌≤◌, ◌≢◌, sym, refl, ap, ◌∙◌, ap₂, ⊎_elim, add_zero, add-suc, arith}
+use Rattle.std.proofs.Common.{◌≡◌, ℕ, zero, suc, ◌+◌, ◌<◌, ◌≤◌, ◌≢◌, sym, refl, ap, ◌∙◌, ap₂, ⊎_elim, add-zero, add-suc, arith}
 use mathlib.Core.Path.{fun_ext}
 use mathlib.Core.HLevel.{Σ_prop_path}
 use native.Mathlib.Bridge.{le_prop}
@@ -144,7 +144,7 @@ module _ {o : Operations} (laws : Laws o) where
   pub products_past : (k m : ℕ) (f g : ℕ → ℕ) → ((i : ℕ) → k ≤ i → f i ≡ 0)
       → sum o (k + m) (λ i. o.mul (f i) (g i)) ≡ sum o k (λ i. o.mul (f i) (g i))
   unfolding sum
-  products_past k zero f g h = ap (λ n. sum o n (λ i. o.mul (f i) (g i))) (add_zero k)
+  products_past k zero f g h = ap (λ n. sum o n (λ i. o.mul (f i) (g i))) (add-zero k)
   products_past k (suc m) f g h =
       ap (λ n. sum o n (λ i. o.mul (f i) (g i))) (add-suc k m)
       ∙ ap₂ o.add (products_past k m f g h)

@@ -1,7 +1,7 @@
 -- Finite sums over any field: f 0 + f 1 + .. + f (k − 1). Assumes nothing.
 --   total     the sum of the first k numbers of a sequence
 --   unit      1 where two indices agree, else 0
-use Rattle.std.proofs.Common.{◌≡◌, ℕ, zero, suc, ◌+◌, ◌<◌, cond, eqb, ◌≢◌, sym, refl, ap, ◌∙◌, ap₂, ⊎_elim, add_zero, add-suc, arith}
+use Rattle.std.proofs.Common.{◌≡◌, ℕ, zero, suc, ◌+◌, ◌<◌, cond, eqb, ◌≢◌, sym, refl, ap, ◌∙◌, ap₂, ⊎_elim, add-zero, add-suc, arith}
 use Rattle.std.proofs.lemmas.Bool.{eq-eqb, ne_eqb, cases_eq, cond-true, cond-false}
 use Rattle.linear.proofs.Scalars.{Scalars, add_middle, mul_nil, nil_mul, one_mul, neg_nil, neg_of_add}
 
@@ -73,7 +73,7 @@ module _ {K : Type 0} (F : Scalars K) where
   -- a + b terms are the first a and the b after them
   pub total_split : (a b : ℕ) (f : ℕ → K) → total F (a + b) f ≡ F.add (total F a f) (total F b (λ i. f (a + i)))
   unfolding total
-  total_split a zero f = ap (λ n. total F n f) (add_zero a) ∙ sym (F.add_nil (total F a f))
+  total_split a zero f = ap (λ n. total F n f) (add-zero a) ∙ sym (F.add_nil (total F a f))
   total_split a (suc b) f =
       ap (λ n. total F n f) (add-suc a b)
       ∙ ap (λ x. F.add x (f (a + b))) (total_split a b f)

@@ -1,4 +1,6 @@
 // Text lines of plans, rows, cards, keys and dummy keys: a reader over lent text, and values that can be written.
+#![tactic(auto)]
+
 mod digits;
 mod entry;
 mod fault;

@@ -1,4 +1,5 @@
 // Tables of sound and damaged lines, for every fault and every boundary.
+#![tactic(auto)]
 
 #[cfg(test)]
 mod tests {

@@ -1,4 +1,6 @@
 // Opens a key: reads a plan and t cards from standard input, and writes the key, or the first refusal.
+#![tactic(auto)]
+
 use anyhow::anyhow;
 use programs::input::{MOST_BYTES, fill};
 use programs::opening::open_cards;

@@ -1,5 +1,5 @@
 -- How large the numbers of an opening can be. Assumes nothing.
-use Rattle.std.proofs.Common.{◌≡◌, ℕ, zero, suc, ◌+◌, ◌-◌, ◌*◌, ◌<◌, ◌≤◌, refl, ap, mul_comm, mul_zero, arith}
+use Rattle.std.proofs.Common.{◌≡◌, ℕ, zero, suc, ◌+◌, ◌-◌, ◌*◌, ◌<◌, ◌≤◌, refl, ap, mul_comm, mul-zero, arith}
 use Rattle.std.proofs.lemmas.Nat.{div-add-mod', mul-le}
 use Rattle.sharing.specs.Scheme.{lanes}
 use Rattle.sharing.proofs.Stores.{lanes_enough}
@@ -13,7 +13,7 @@ pub lanes_some : (t L : ℕ) → 0 < t → 1 ≤ L → 1 ≤ lanes t L
 lanes_some t L pos some = go (lanes t L) refl
   where
     go : (b : ℕ) → lanes t L ≡ b → 1 ≤ lanes t L
-    go zero e = absurd (omega (arith, lanes_enough t L pos, ap (λ b. t * b) e, mul_zero t))
+    go zero e = absurd (omega (arith, lanes_enough t L pos, ap (λ b. t * b) e, mul-zero t))
     go (suc b) e = omega arith
 
 -- with t from 2 on, a key of at most 64 numbers has at most 64 lanes

@@ -1,4 +1,6 @@
 // Opening: from t cards back to the key.
+#![tactic(auto)]
+
 mod key;
 mod quorum;
 mod system;

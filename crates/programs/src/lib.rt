@@ -1,4 +1,6 @@
 // The programs, as functions from text to text.
+#![tactic(auto)]
+
 mod cards;
 pub mod dealing;
 mod gather;

@@ -1,4 +1,6 @@
 // Refusals of the two programs, on texts of each sort, and the largest plan and the longest key that they take.
+#![tactic(auto)]
+
 #[cfg(test)]
 mod tests {
     use programs::dealing::deal_cards;

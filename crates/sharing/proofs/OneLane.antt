@@ -1,6 +1,6 @@
 -- Deals of t numbers, which have one lane and no padding. Assumes nothing.
 --   spelled   the key of t numbers whose number c is f c
-use Rattle.std.proofs.Common.{◌≡◌, ℕ, ◌+◌, ◌-◌, ◌*◌, ◌<◌, List, map, get_or, replicate, sym, ap, ◌∙◌, subst, mul_one, arith}
+use Rattle.std.proofs.Common.{◌≡◌, ℕ, ◌+◌, ◌-◌, ◌*◌, ◌<◌, List, map, get_or, replicate, sym, ap, ◌∙◌, subst, mul-one, arith}
 use Rattle.std.specs.List.{range_with_len}
 use Rattle.std.proofs.lemmas.List.FromFn.{length-map-range_with_len, get_or-map-range_with_len}
 use Rattle.std.proofs.lemmas.List.{get_or_append_left}
@@ -23,7 +23,7 @@ key_spelled o t f codes = (
 pub spelled-number : (t : ℕ) (f : ℕ → ℕ) (e c : ℕ) → 0 < t → e < lanes t t → c < t → key_number t t (spelled t f) e c ≡ f c
 spelled-number t f e c pos he hc =
     let one : lanes t t ≡ 1 = lanes_one t pos in
-    let at : c * lanes t t + e ≡ c = ap (λ b. c * b + e) one ∙ omega (arith, mul_one c) in
+    let at : c * lanes t t + e ≡ c = ap (λ b. c * b + e) one ∙ omega (arith, mul-one c) in
     ap (λ n. get_or (padded t t (spelled t f)) n 0) at
     ∙ get_or_append_left (spelled t f) (replicate (t * lanes t t - t) 0) 0 c (omega (arith, length-map-range_with_len f 0 t))
     ∙ get_or-map-range_with_len f 0 t c c 0 hc (omega arith)

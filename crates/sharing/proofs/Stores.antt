@@ -1,6 +1,6 @@
 -- Where the numbers of keys, stores and cards stand: lists of h × b numbers as h places of b lanes. Assumes nothing.
 --   laid      the dummy keys whose number for unknown u of lane e is X e u
-use Rattle.std.proofs.Common.{◌≡◌, ℕ, zero, suc, ◌+◌, ◌-◌, ◌*◌, ◌/◌, ◌%◌, ◌<◌, ◌≤◌, List, ◌++◌, map, length, get_or, replicate, sym, refl, ap, ◌∙◌, subst, ap₂, ⊎_elim, add_assoc, mul_assoc, suc-mul, mul_comm, add_mul, zero-mul, arith}
+use Rattle.std.proofs.Common.{◌≡◌, ℕ, zero, suc, ◌+◌, ◌-◌, ◌*◌, ◌/◌, ◌%◌, ◌<◌, ◌≤◌, List, ◌++◌, map, length, get_or, replicate, sym, refl, ap, ◌∙◌, subst, ap₂, ⊎_elim, add_assoc, mul_assoc, suc-mul, mul_comm, add-mul, zero-mul, arith}
 use Rattle.std.specs.List.{range_with_len}
 use Rattle.std.proofs.lemmas.Nat.{div-add-mod', mod_below, div_below, mul-add-lt, div-mul-add, mod-mul-add}
 use Rattle.std.proofs.lemmas.List.FromFn.{length-map-range_with_len, get_or-map-range_with_len}
@@ -82,8 +82,8 @@ module _ (t L : ℕ) (key dummies : List ℕ) (pos : 0 < t) (long : length key �
       → stored t (lanes t L) (store t L key dummies) i c e ≡ get_or dummies ((k * t + c) * lanes t L + e) 0
   stored_dummy i k c e is =
       ap (λ n. get_or (store t L key dummies) n 0)
-      (ap (λ n. n * lanes t L + e) (ap (λ n. n * t + c) is ∙ omega (arith, add_mul k 1 t, suc-mul 0 t, zero-mul t))
-      ∙ ap (λ n. n + e) (add_mul t (k * t + c) (lanes t L))
+      (ap (λ n. n * lanes t L + e) (ap (λ n. n * t + c) is ∙ omega (arith, add-mul k 1 t, suc-mul 0 t, zero-mul t))
+      ∙ ap (λ n. n + e) (add-mul t (k * t + c) (lanes t L))
       ∙ add_assoc (t * lanes t L) ((k * t + c) * lanes t L) e
       ∙ ap (λ n. n + ((k * t + c) * lanes t L + e)) (sym (length-padded t L key pos long)))
       ∙ get_or-append-add (padded t L key) dummies ((k * t + c) * lanes t L + e) 0

@@ -1,5 +1,5 @@
 -- The numbers of the cards held, lowest first, and how they come together card by card. Assumes nothing.
-use Rattle.std.proofs.Common.{◌≡◌, ℕ, suc, ◌+◌, ◌*◌, ◌<◌, ◌≤◌, true, false, cond, List, [], ◌∷◌, ◌++◌, length, get_or, take, set, is_some, Some, None, Option, unwrap_or, sym, refl, ap, ◌∙◌, ap₂, append_assoc, add_zero, add_mul, one_mul, zero-mul, arith, length-append, length-take}
+use Rattle.std.proofs.Common.{◌≡◌, ℕ, suc, ◌+◌, ◌*◌, ◌<◌, ◌≤◌, true, false, cond, List, [], ◌∷◌, ◌++◌, length, get_or, take, set, is_some, Some, None, Option, unwrap_or, sym, refl, ap, ◌∙◌, ap₂, append_assoc, add-zero, add-mul, one-mul, zero-mul, arith, length-append, length-take}
 use Rattle.std.proofs.lemmas.Nat.{mul-le}
 use Rattle.std.proofs.lemmas.List.{append-nil, take_all, take-append-le, take_more, take_more_set, length-take-le}
 use Rattle.std.proofs.lemmas.List.Sums.{count_by-le-length, sum_by-cons}
@@ -19,7 +19,7 @@ length-numbers k (None ∷ cards) = omega (arith, length-numbers (suc k) cards, 
 
 -- one more card
 numbers_more : (k : ℕ) (cards : Cards) (c : Option (List ℕ)) → numbers_held k (cards ++ c ∷ []) ≡ numbers_held k cards ++ cond (is_some c) ((k + length cards) ∷ []) []
-numbers_more k [] c = append-nil (cond (is_some c) (k ∷ []) []) ∙ ap (λ i. cond (is_some c) (i ∷ []) []) (sym (add_zero k))
+numbers_more k [] c = append-nil (cond (is_some c) (k ∷ []) []) ∙ ap (λ i. cond (is_some c) (i ∷ []) []) (sym (add-zero k))
 numbers_more k (Some d ∷ cards) c =
     ap (λ l. k ∷ l) (numbers_more (suc k) cards c ∙ ap (λ i. numbers_held (suc k) cards ++ cond (is_some c) (i ∷ []) []) (omega arith))
 numbers_more k (None ∷ cards) c =
@@ -112,7 +112,7 @@ module _ (t : ℕ) (cards : Cards) (len : ℕ) where
           many = omega (arith, out.many, ap length more, length-append (so_far t cards k) (k ∷ []));
           front = take_more_set numbers found k place ∙ ap (λ l. l ++ k ∷ []) out.front ∙ sym more;
           copied =
-              ap (λ n. take n (laid «data» (found * len) ns)) (omega (arith, long, add_mul found 1 len, one_mul len))
+              ap (λ n. take n (laid «data» (found * len) ns)) (omega (arith, long, add-mul found 1 len, one-mul len))
               ∙ laid_front «data» (found * len) ns fits
               ∙ ap (λ l. l ++ ns) out.copied
               ∙ ap (λ l. data_held cards (so_far t cards k) ++ l) (sym (append-nil ns) ∙ ap (λ c. unwrap_or c [] ++ []) (sym here))

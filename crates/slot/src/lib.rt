@@ -1,4 +1,6 @@
 // The cabinet's slot: it takes cards as lines of text, gives them up again, and opens the key once it holds enough of them.
+#![tactic(auto)]
+
 mod calls;
 mod card;
 mod gather;

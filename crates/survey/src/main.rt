@@ -1,5 +1,7 @@
 // For whoever plans an examination: which plans with Cauchy rows can be used, for every t and n in both fields, and where one
 // cannot, which cards stand against it.
+#![tactic(auto)]
+
 mod verdict;
 
 use crate::verdict::{Verdict, judge};

@@ -1,5 +1,7 @@
 // One task from beginning to end, with notes, in each of the two fields: a three-of-five plan is drafted with Cauchy rows,
 // written as lines and read back, admitted and vetted; then a key is dealt onto five cards.
+#![tactic(auto)]
+
 use check::plan::{Drafted, Vetted};
 use deal::begin::begin;
 use deal::deal::Deal;

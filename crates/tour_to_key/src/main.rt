@@ -1,5 +1,7 @@
 // One task from beginning to end, with notes, in each of the two fields: a three-of-five plan is drafted with Cauchy rows,
 // written as lines and read back, admitted and vetted; a key is dealt onto five cards; and three of them open it again.
+#![tactic(auto)]
+
 mod cabinet;
 
 use crate::cabinet::opened;

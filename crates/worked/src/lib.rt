@@ -1,4 +1,6 @@
 // Cases worked out by hand, all in one list.
+#![tactic(auto)]
+
 ghost use Rattle.std.specs.List.{AllByRecursion as All};
 ghost use Rattle.worked.specs.Cases.{Holds, cases};
 ghost use Rattle.std.specs.Prelude.{◌≡◌, length};
