@@ -16,21 +16,21 @@ returns g c =
     let told : Plan = record { t = c.threshold-t.result; n = c.cards-n.result; rows = c.rows-rows.result.now } in
     let plan : Plan = g.P.Checked.plan a.plan.now in
     let same : told ≡ plan = plan_path told plan c.threshold-t.ensures c.cards-n.ensures c.rows-rows.ensures in
-    let answer : Answered g.F.Field.ops plan a.cards.now a.data.now a.key-length a.key.now c.open-cards.new.key
-    (length a.workspace.now) c.open-cards.result =
+    let answer : Answered g.F.Field.ops plan a.cards.now a.data.now a.key_length a.key.now c.open_cards.new.key
+    (length a.workspace.now) c.open_cards.result =
     subst
     (λ p.
-    Answered g.F.Field.ops p a.cards.now a.data.now a.key-length a.key.now c.open-cards.new.key
-    (length a.workspace.now) c.open-cards.result)
-    same c.open-cards.ensures.answer
+    Answered g.F.Field.ops p a.cards.now a.data.now a.key_length a.key.now c.open_cards.new.key
+    (length a.workspace.now) c.open_cards.result)
+    same c.open_cards.ensures.answer
     in
     record {
       answer = answer;
-      zeros = c.open-cards.ensures.zeros;
+      zeros = c.open_cards.ensures.zeros;
       only =
-          only_answer g.F.Field.ops plan a.cards.now a.data.now a.key-length a.key.now c.open-cards.new.key
-          (length a.workspace.now) c.open-cards.result answer;
+          only_answer g.F.Field.ops plan a.cards.now a.data.now a.key_length a.key.now c.open_cards.new.key
+          (length a.workspace.now) c.open_cards.result answer;
       deals =
-          gives_back g.met.F.Field.lawful plan a.cards.now a.data.now a.key-length a.key.now c.open-cards.new.key
-          (length a.workspace.now) c.open-cards.result answer;
+          gives_back g.met.F.Field.lawful plan a.cards.now a.data.now a.key_length a.key.now c.open_cards.new.key
+          (length a.workspace.now) c.open_cards.result answer;
     }

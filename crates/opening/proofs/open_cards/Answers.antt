@@ -14,8 +14,8 @@ returns-then-workspace-lt-ROOM g c =
     record {
       answer =
           answered_short (Unit {0}) g.F.Field.ops (record { t = a.t; n = a.n; rows = a.rows.now }) a.cards.now a.data.now
-          a.key-length a.key.now a.key.now (length a.workspace.now) c.inputs-fault-fault.result c.unwrap-or.result
-          c.unwrap-or.ensures c.inputs-fault-fault.ensures (omega arith) refl;
+          a.key_length a.key.now a.key.now (length a.workspace.now) c.inputs_fault-fault.result c.unwrap_or.result
+          c.unwrap_or.ensures c.inputs_fault-fault.ensures (omega arith) refl;
       zeros = sym (cond-true (ltb (length a.workspace.now) 4096) _ _ (lt-ltb (length a.workspace.now) 4096 (omega arith)));
     }
 
@@ -25,7 +25,7 @@ returns-in-Some g c =
     let p : Plan = record { t = a.t; n = a.n; rows = a.rows.now } in
     record {
       answer =
-          answered_fault (Unit {0}) g.F.Field.ops p a.cards.now a.data.now a.key-length a.key.now a.key.now
+          answered_fault (Unit {0}) g.F.Field.ops p a.cards.now a.data.now a.key_length a.key.now a.key.now
           (length a.workspace.now) c.in-Some.refusal c.in-Some.ensures refl;
       zeros =
           c.drop-guard.ensures
@@ -36,7 +36,7 @@ pub settle-requires : goal.settle-requires
 settle-requires g c =
     let a = c.args in
     let t = a.t in
-    let L = a.key-length in
+    let L = a.key_length in
     let p : Plan = record { t = a.t; n = a.n; rows = a.rows.now } in
     let f = faultless g.F.Field.ops p a.cards.now a.data.now L (length a.key.now) (length a.workspace.now) (sym c.in-default.ensures) in
     let same = c.lanes.ensures in
@@ -65,10 +65,10 @@ pub returns : goal.returns
 returns g c =
     let a = c.args in
     let p : Plan = record { t = a.t; n = a.n; rows = a.rows.now } in
-    let f = faultless g.F.Field.ops p a.cards.now a.data.now a.key-length (length a.key.now) (length a.workspace.now) (sym c.in-default.ensures) in
+    let f = faultless g.F.Field.ops p a.cards.now a.data.now a.key_length (length a.key.now) (length a.workspace.now) (sym c.in-default.ensures) in
     record {
       answer =
-          answered_settled (Unit {0}) g.F.Field.ops p a.cards.now a.data.now a.key-length a.key.now c.settle.new.key
+          answered_settled (Unit {0}) g.F.Field.ops p a.cards.now a.data.now a.key_length a.key.now c.settle.new.key
           (length a.workspace.now) c.settle.result c.in-default.ensures (omega arith)
           (⊎_elim inl
           (λ opened.

@@ -6,9 +6,9 @@ use Rattle.field.proofs.Limits.{within-parts}
 use Rattle.check.specs.Faults.{no_code}
 use Rattle.check.proofs.fault.plan_fault.Goals as goal
 
-pub overflow-cast-result : goal.overflow-cast-result
-overflow-cast-result g c =
-    let limits = within-parts c.args.t c.args.n (sym c.if-not-within-limits.ensures) in
+pub overflow_cast-result : goal.overflow_cast-result
+overflow_cast-result g c =
+    let limits = within-parts c.args.t c.args.n (sym c.if-not-within_limits.ensures) in
     let rows = c.args.rows.now in
     let found = first_passes (no_code g.F.Field.ops rows) (length rows) c.in-Some.index (sym c.in-Some.ensures) in
     let most = mul-le (c.args.n - c.args.t) c.args.t 8 8 (omega arith) (omega arith) in

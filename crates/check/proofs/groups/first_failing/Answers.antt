@@ -46,7 +46,7 @@ groups-preserved-then-held-size g c =
       omega arith,
       down_more (Passes c.args.property g.F.Field.ops (plan_of c.args.t n c.args.rows.now)) n
           (group_size c.args.property c.args.t) (c.groups.rank - 1) c.groups.rank (omega arith) c.groups.invariant.1
-          (λ few. absurd (omega (arith, c.group-size-size.ensures))),
+          (λ few. absurd (omega (arith, c.group_size-size.ensures))),
     )
 
 pub loop-card-preserved : goal.loop-card-preserved
@@ -71,15 +71,15 @@ passes-requires g c =
     cards_held c.args.n c.loop-card.card c.loop-card.left held (c.groups.rank - 1) group (omega arith)
     c.loop-card-test.false c.loop-card.invariant.2
     in
-    let size = cards.1 ∙ c.if-held-size-2.true ∙ c.group-size-size.ensures in
+    let size = cards.1 ∙ c.if-held-size-2.true ∙ c.group_size-size.ensures in
     record {
       sound = c.requires.sound;
       proper = run_group c.args.n (group_size c.args.property c.args.t) (take (held - 0) group) size cards.2;
       room = omega arith;
     }
 
-pub group-bits-requires : goal.group-bits-requires
-group-bits-requires g c =
+pub group_bits-requires : goal.group_bits-requires
+group_bits-requires g c =
     let held = c.loop-card.held in
     let group = c.loop-card.group in
     let cards =
@@ -107,7 +107,7 @@ groups-preserved g c =
           (λ size. elim c.else-held-size-2.branch [
             | else-held-size-2-via-then-held-size-2+else-not-passes w ↦ subst Good (sym cards.0) (w.passes.ensures.yes w.if-not-passes.false)
             | else-held-size-2-via-else-held-size-2 w ↦
-                absurd (w.if-held-size-2.false (sym cards.1 ∙ ap length (sym cards.0) ∙ size ∙ sym c.group-size-size.ensures))
+                absurd (w.if-held-size-2.false (sym cards.1 ∙ ap length (sym cards.0) ∙ size ∙ sym c.group_size-size.ensures))
           ]),
     )
 
@@ -121,12 +121,12 @@ returns-then-not-passes g c =
     cards_held n c.loop-card.card c.loop-card.left held r group (omega arith)
     c.loop-card-test.false c.loop-card.invariant.2
     in
-    let size = cards.1 ∙ c.if-held-size-2.true ∙ c.group-size-size.ensures in (
+    let size = cards.1 ∙ c.if-held-size-2.true ∙ c.group_size-size.ensures in (
       take (held - 0) group,
       down_first (Passes c.args.property g.F.Field.ops (plan_of c.args.t n c.args.rows.now)) n
           (group_size c.args.property c.args.t) r c.groups.rank (take (held - 0) group) (omega arith) (omega arith)
           cards.0 size (c.passes.ensures.no c.if-not-passes.true) c.groups.invariant.1,
-      c.failure.ensures ∙ ap (λ b. (failure c.args.property, b)) c.group-bits.ensures,
+      c.failure.ensures ∙ ap (λ b. (failure c.args.property, b)) c.group_bits.ensures,
     )
 
 pub returns-then-rank-eq0 : goal.returns-then-rank-eq0

@@ -12,7 +12,7 @@ loop-p-preserved g c k h =
     let p = c.loop-p.p in
     let number = word g.F.Field.ops (length c.args.buffer.now) c.args.b c.args.store.now c.args.i c.args.e in
     let within : p < length xs = omega arith in
-    subst (λ v. get_or (set xs p v) k 0 ≡ number k) (sym c.word-number.ensures) (fill_by_more number xs p 0 within c.loop-p.invariant k h)
+    subst (λ v. get_or (set xs p v) k 0 ≡ number k) (sym c.word_number.ensures) (fill_by_more number xs p 0 within c.loop-p.invariant k h)
 
 pub returns : goal.returns
 returns g c =
@@ -21,6 +21,6 @@ returns g c =
     let rows = c.args.rows.now in
     let laid : ℕ → ℕ = λ p. get_or c.loop-p.buffer p 0 in
     let number = word o t c.args.b c.args.store.now c.args.i c.args.e in
-    c.cast-number.ensures ∙ ap (λ k. cast o k rows laid c.args.c) c.loop-p.auto.buffer
+    c.cast_number.ensures ∙ ap (λ k. cast o k rows laid c.args.c) c.loop-p.auto.buffer
     ∙ sum_cong o t (λ p. o.mul (row t rows c.args.c p) (laid p)) (λ p. o.mul (row t rows c.args.c p) (number p))
     (λ p lt. ap (λ v. o.mul (row t rows c.args.c p) v) (c.loop-p.invariant p (omega arith)))

@@ -9,4 +9,4 @@ loop-i-init g c = sym (sum_none g.F.Field.ops _)
 pub loop-i-preserved : goal.loop-i-preserved
 loop-i-preserved g c =
     let o = g.F.Field.ops in
-    c.sum-total.ensures ∙ ap₂ o.add c.loop-i.invariant c.stored-number.ensures ∙ sym (sum_more o c.loop-i.i _)
+    c.sum-total.ensures ∙ ap₂ o.add c.loop-i.invariant c.stored_number.ensures ∙ sym (sum_more o c.loop-i.i _)

@@ -7,8 +7,8 @@ use Rattle.sharing.specs.Scheme.{word}
 use Rattle.deal.proofs.Places.{lanes_some}
 use Rattle.deal.proofs.casting.write_card.Goals as goal
 
-pub cast-lane-requires : goal.cast-lane-requires
-cast-lane-requires g c =
+pub cast_lane-requires : goal.cast_lane-requires
+cast_lane-requires g c =
     let t = c.args.t in
     let b = c.args.b in
     let x = c.loop-x.x in

@@ -9,7 +9,7 @@ use Rattle.deal.proofs.fit.first_stray.Goals as goal
 pub bounds-store-i : goal.bounds-store-i
 bounds-store-i c =
     let t = c.args.t in
-    let end = ap (λ b. t * b) c.lane-count.ensures in
+    let end = ap (λ b. t * b) c.lane_count.ensures in
     let inside = block_inside t c.args.len c.requires.0 in
     omega (arith, c.requires.3)
 
@@ -20,7 +20,7 @@ returns-then-store-i-ne0 c =
     let len = c.args.len in
     let i = c.loop-i.i in
     let test : ℕ → Bool = λ k. leb len k && not (eqb (get_or store k 0) 0) in
-    let end = ap (λ b. t * b) c.lane-count.ensures in
+    let end = ap (λ b. t * b) c.lane_count.ensures in
     sym
     (first_found test (t * lanes t len) i (omega arith)
     (and_from (leb len i) (not (eqb (get_or store i 0) 0)) (le-leb len i (omega arith)) (ap not (ne_eqb (get_or store i 0) 0 c.if-store-i-ne0.true)))
@@ -32,5 +32,5 @@ returns c =
     let t = c.args.t in
     let len = c.args.len in
     let test : ℕ → Bool = λ k. leb len k && not (eqb (get_or store k 0) 0) in
-    let end = ap (λ b. t * b) c.lane-count.ensures in
+    let end = ap (λ b. t * b) c.lane_count.ensures in
     sym (first_nothing test (t * lanes t len) (λ k lt. c.loop-i.invariant k (omega arith)))

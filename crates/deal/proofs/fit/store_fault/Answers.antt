@@ -5,10 +5,10 @@ use Rattle.check.specs.Faults.{no_code}
 use Rattle.deal.proofs.Places.{store_small}
 use Rattle.deal.proofs.fit.store_fault.Goals as goal
 
-pub overflow-cast-result : goal.overflow-cast-result
-overflow-cast-result g c =
+pub overflow_cast-result : goal.overflow_cast-result
+overflow_cast-result g c =
     let store = c.args.store.now in
     let t = c.args.t in
     let found = first_passes (no_code g.F.Field.ops store) (length store) c.in-Some.index (sym c.in-Some.ensures) in
-    let small = subst (λ b. t * (t * b) ≤ 568) (sym c.lane-count.ensures) (store_small t c.args.len c.requires.1 c.requires.2) in
+    let small = subst (λ b. t * (t * b) ≤ 568) (sym c.lane_count.ensures) (store_small t c.args.len c.requires.1 c.requires.2) in
     omega arith

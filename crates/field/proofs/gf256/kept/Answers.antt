@@ -14,5 +14,5 @@ masked a (suc (suc bit)) mask ha hb hm e = absurd (omega arith)
 
 pub returns : goal.returns
 returns c =
-    masked c.args.a c.args.bit c.wrapping-neg.result (omega arith) c.requires c.wrapping-neg.type-inv
-    c.wrapping-neg.ensures
+    masked c.args.a c.args.bit c.wrapping_neg.result (omega arith) c.requires c.wrapping_neg.type_inv
+    c.wrapping_neg.ensures

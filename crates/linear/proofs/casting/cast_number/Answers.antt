@@ -14,7 +14,7 @@ returns-then-c-t g c =
 pub returns-then-from-given : goal.returns-then-from-given
 returns-then-from-given g c =
     let told = c.in-Some.ensures in
-    c.sum-of-products.ensures
+    c.sum_of_products.ensures
     ∙ cast_cut g.met.F.Field.lawful _ c.args.given.now c.args.word.now c.args.c c.in-Some.from c.if-c-t.false told.1
     (take_rest c.args.given.now c.in-Some.from)
 

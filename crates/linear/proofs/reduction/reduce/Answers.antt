@@ -5,29 +5,29 @@ use Rattle.linear.proofs.Crossing.{alternative_stands}
 use Rattle.linear.proofs.Reducing.{Reducing, matrix_code, reducing_none, reducing_more, matrix_more, reducing_kept, reducing_stuck, reducing_full}
 use Rattle.linear.proofs.reduction.reduce.Goals as goal
 
-pub returns-then-not-is-matrix : goal.returns-then-not-is-matrix
-returns-then-not-is-matrix g c = record {
-  reduced = (c.is-matrix.ensures.no c.if-not-is-matrix.true, refl);
+pub returns-then-not-is_matrix : goal.returns-then-not-is_matrix
+returns-then-not-is_matrix g c = record {
+  reduced = (c.is_matrix.ensures.no c.if-not-is_matrix.true, refl);
   alternative = alternative_stands g.met.F.Field.lawful;
 }
 
 pub loop-k-init : goal.loop-k-init
 loop-k-init g c =
-    (c.is-matrix.ensures.yes c.if-not-is-matrix.false, reducing_none g.met.F.Field.lawful c.args.rows c.args.width c.args.m.now)
+    (c.is_matrix.ensures.yes c.if-not-is_matrix.false, reducing_none g.met.F.Field.lawful c.args.rows c.args.width c.args.m.now)
 
-pub reduce-column-requires : goal.reduce-column-requires
-reduce-column-requires g c =
+pub reduce_column-requires : goal.reduce_column-requires
+reduce_column-requires g c =
     let m = c.loop-k.invariant.0 in
     ((m.size, (c.loop-k-test.true, omega (arith, m.square))), matrix_code g.met.F.Field.lawful c.args.rows c.args.width c.loop-k.m m)
 
-pub returns-then-not-reduce-column : goal.returns-then-not-reduce-column
-returns-then-not-reduce-column g c =
+pub returns-then-not-reduce_column : goal.returns-then-not-reduce_column
+returns-then-not-reduce_column g c =
     let laws = g.met.F.Field.lawful in
     let m = c.loop-k.invariant.0 in
-    let stopped = c.reduce-column.ensures.stopped c.if-not-reduce-column.true in
+    let stopped = c.reduce_column.ensures.stopped c.if-not-reduce_column.true in
     record {
       reduced = (
-        c.is-matrix.ensures.yes c.if-not-is-matrix.false,
+        c.is_matrix.ensures.yes c.if-not-is_matrix.false,
         subst (Kept g.F.Field.ops c.args.rows c.args.width c.loop-k.k c.args.m.now) (sym stopped.1)
             (reducing_kept laws c.args.rows c.args.width c.loop-k.k c.args.m.now c.loop-k.m m c.loop-k.invariant.1 (omega arith)
             m.square),
@@ -42,7 +42,7 @@ loop-k-preserved g c =
     let laws = g.met.F.Field.lawful in
     let m = c.loop-k.invariant.0 in
     let now = c.loop-k.invariant.1 in
-    let step = c.reduce-column.ensures.stepped c.if-not-reduce-column.false in (
+    let step = c.reduce_column.ensures.stepped c.if-not-reduce_column.false in (
       matrix_more laws c.args.rows c.args.width c.loop-k.k c.args.m.now c.loop-k.m _ m now step c.loop-k-test.true (omega arith),
       reducing_more laws c.args.rows c.args.width c.loop-k.k c.args.m.now c.loop-k.m _ m now step c.loop-k-test.true,
     )
@@ -50,7 +50,7 @@ loop-k-preserved g c =
 pub returns : goal.returns
 returns g c =
     let laws = g.met.F.Field.lawful in
-    let ms = c.is-matrix.ensures.yes c.if-not-is-matrix.false in
+    let ms = c.is_matrix.ensures.yes c.if-not-is_matrix.false in
     let mt = c.loop-k.invariant.0 in
     let P : ℕ → Type 0 = λ k. Reducing laws c.args.rows c.args.width k c.args.m.now c.loop-k.m in
     let all : c.loop-k.k ≡ c.args.rows = omega arith in

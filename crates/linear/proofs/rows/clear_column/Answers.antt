@@ -11,8 +11,8 @@ loop-r-init g c = cleared_none g.F.Field.ops c.args.width c.args.k c.args.m.now
 pub bounds-m-r : goal.bounds-m-r
 bounds-m-r g c = omega (arith, row_within c.args.width c.args.rows c.loop-r.r c.loop-r-test.true)
 
-pub add-row-requires : goal.add-row-requires
-add-row-requires g c =
+pub add_row-requires : goal.add_row-requires
+add_row-requires g c =
     let a = row_within c.args.width c.args.rows c.args.k (omega arith) in
     let b = row_within c.args.width c.args.rows c.loop-r.r c.loop-r-test.true in
     (omega arith, (omega arith, c.if-r-k.true))

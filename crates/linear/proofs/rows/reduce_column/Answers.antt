@@ -17,15 +17,15 @@ returns-in-default-reciprocal g c =
     let w = inverse_found g.met.F.Field.lawful _ (c.requires.1 c.in-Some.place) found.3 in
     absurd (c.in-default-reciprocal.not-Some w.0 (c.reciprocal.ensures ∙ w.1))
 
-pub swap-rows-requires : goal.swap-rows-requires
-swap-rows-requires g c =
+pub swap_rows-requires : goal.swap_rows-requires
+swap_rows-requires g c =
     let found = c.in-Some.ensures in
     let a = row_within c.args.width c.args.rows c.args.k (omega arith) in
     let b = row_within c.args.width c.args.rows c.in-Some.row found.1 in
     (omega arith, omega arith)
 
-pub scale-row-requires : goal.scale-row-requires
-scale-row-requires g c = let a = row_within c.args.width c.args.rows c.args.k (omega arith) in omega arith
+pub scale_row-requires : goal.scale_row-requires
+scale_row-requires g c = let a = row_within c.args.width c.args.rows c.args.k (omega arith) in omega arith
 
 pub returns : goal.returns
 returns g c =
@@ -43,8 +43,8 @@ returns g c =
         code = inverse.0;
         product = ap (λ i. o.mul (get_or s i 0) d) (sym found.2) ∙ inverse.1;
         entries =
-            stepped_entry o c.args.width c.args.k c.in-Some.row d s _ _ c.swap-rows.ensures c.scale-row.ensures c.args.rows _
-            (omega arith) c.clear-column.ensures;
+            stepped_entry o c.args.width c.args.k c.in-Some.row d s _ _ c.swap_rows.ensures c.scale_row.ensures c.args.rows _
+            (omega arith) c.clear_column.ensures;
       };
       stopped = λ e. absurd (true≢false e);
     }

@@ -5,15 +5,15 @@ use Rattle.lines.specs.Digits.{passes}
 use Rattle.lines.proofs.digits.front.Goals as goal
 
 -- src/digits.rt:65:13
-pub returns-then-not-is-of : goal.returns-then-not-is-of
-returns-then-not-is-of c =
-    let h : passes c.args.class (get_or c.args.s.now c.loop-i.i 0) ≡ false = sym c.if-not-is-of.ensures in
+pub returns-then-not-is_of : goal.returns-then-not-is_of
+returns-then-not-is_of c =
+    let h : passes c.args.class (get_or c.args.s.now c.loop-i.i 0) ≡ false = sym c.if-not-is_of.ensures in
     omega (arith, prefix_len-drop_no (passes c.args.class) c.args.s.now c.loop-i.i 0 (omega arith) h)
 
 -- src/digits.rt:63:5
 pub loop-i-preserved : goal.loop-i-preserved
 loop-i-preserved c =
-    let h : passes c.args.class (get_or c.args.s.now c.loop-i.i 0) ≡ true = sym c.if-not-is-of.ensures in
+    let h : passes c.args.class (get_or c.args.s.now c.loop-i.i 0) ≡ true = sym c.if-not-is_of.ensures in
     omega (arith, prefix_len-drop_yes (passes c.args.class) c.args.s.now c.loop-i.i 0 (omega arith) h)
 
 -- src/digits.rt:60:1

@@ -1,5 +1,5 @@
 -- The width falls.
 use Rattle.lines.proofs.hex.+put_number.Given as goal
 
-abbrev pub decreases-put-number : goal.decreases-put-number
-decreases-put-number g l = l.width
+abbrev pub decreases-put_number : goal.decreases-put_number
+decreases-put_number g l = l.width

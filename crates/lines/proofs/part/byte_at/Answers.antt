@@ -8,7 +8,7 @@ use Rattle.lines.proofs.part.byte_at.Goals as goal
 pub returns : goal.returns
 returns c =
     let rest = drop c.args.place c.args.line.now in
-    let d = c.part-at.ensures.digits in
+    let d = c.part_at.ensures.digits in
     let e = c.number.ensures in
     let short : length (spelled (take 2 rest)) ≤ 1 = omega (arith, length-spelled (take 2 rest), length-take 2 rest) in
     let one = numeral_one (spelled (take 2 rest)) short in

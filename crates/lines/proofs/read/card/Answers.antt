@@ -17,29 +17,29 @@ card_is l f m t n j s d =
     (λ i. card_of (sym f i) (sym m i) (sym t i) (sym n i) (sym j i) (sym s i) (sym d i))
 
 -- src/read.rt:109:9
-pub returns-then-not-is-dealt : goal.returns-then-not-is-dealt
-returns-then-not-is-dealt c =
+pub returns-then-not-is_dealt : goal.returns-then-not-is_dealt
+returns-then-not-is_dealt c =
     let l = c.args.line.now in
-    let e = card_is l c.byte-at-field.ensures c.part-at-deal.ensures.digits c.byte-at-t.ensures c.byte-at-n.ensures c.byte-at-number.ensures c.byte-at-size.ensures c.tail-at-data.ensures.digits in
-    record { told = sym (judged_limits (wanted.Card c.args.mark) (content_of kind.Card l) _ e (sym c.if-not-is-dealt.ensures)); parts = tt }
+    let e = card_is l c.byte_at-field.ensures c.part_at-deal.ensures.digits c.byte_at-t.ensures c.byte_at-n.ensures c.byte_at-number.ensures c.byte_at-size.ensures c.tail_at-data.ensures.digits in
+    record { told = sym (judged_limits (wanted.Card c.args.mark) (content_of kind.Card l) _ e (sym c.if-not-is_dealt.ensures)); parts = tt }
 
 -- src/read.rt:112:9
-pub returns-then-count-padded-size : goal.returns-then-count-padded-size
-returns-then-count-padded-size c =
+pub returns-then-count-padded_size : goal.returns-then-count-padded_size
+returns-then-count-padded_size c =
     let l = c.args.line.now in
-    let e = card_is l c.byte-at-field.ensures c.part-at-deal.ensures.digits c.byte-at-t.ensures c.byte-at-n.ensures c.byte-at-number.ensures c.byte-at-size.ensures c.tail-at-data.ensures.digits in
-    let long = ne_eqb _ _ (λ h. c.if-count-padded-size.true (c.count.ensures ∙ h ∙ sym c.padded-size.ensures)) in
-    record { told = sym (judged_length (wanted.Card c.args.mark) (content_of kind.Card l) _ e (sym c.if-not-is-dealt.ensures) long); parts = tt }
+    let e = card_is l c.byte_at-field.ensures c.part_at-deal.ensures.digits c.byte_at-t.ensures c.byte_at-n.ensures c.byte_at-number.ensures c.byte_at-size.ensures c.tail_at-data.ensures.digits in
+    let long = ne_eqb _ _ (λ h. c.if-count-padded_size.true (c.count.ensures ∙ h ∙ sym c.padded_size.ensures)) in
+    record { told = sym (judged_length (wanted.Card c.args.mark) (content_of kind.Card l) _ e (sym c.if-not-is_dealt.ensures) long); parts = tt }
 
 -- src/read.rt:97:1
 pub returns : goal.returns
 returns c =
     let l = c.args.line.now in
-    let e = card_is l c.byte-at-field.ensures c.part-at-deal.ensures.digits c.byte-at-t.ensures c.byte-at-n.ensures c.byte-at-number.ensures c.byte-at-size.ensures c.tail-at-data.ensures.digits in
-    let long = eq-eqb _ _ (sym c.count.ensures ∙ c.if-count-padded-size.false ∙ c.padded-size.ensures) in
-    let deal = c.part-at-deal.ensures in
-    let rest = c.tail-at-data.ensures in
+    let e = card_is l c.byte_at-field.ensures c.part_at-deal.ensures.digits c.byte_at-t.ensures c.byte_at-n.ensures c.byte_at-number.ensures c.byte_at-size.ensures c.tail_at-data.ensures.digits in
+    let long = eq-eqb _ _ (sym c.count.ensures ∙ c.if-count-padded_size.false ∙ c.padded_size.ensures) in
+    let deal = c.part_at-deal.ensures in
+    let rest = c.tail_at-data.ensures in
     record {
-      told = sym (judged_ok (wanted.Card c.args.mark) (content_of kind.Card l) _ e (sym c.if-not-is-dealt.ensures) long);
+      told = sym (judged_ok (wanted.Card c.args.mark) (content_of kind.Card l) _ e (sym c.if-not-is_dealt.ensures) long);
       parts = λ i. (deal.place i, deal.digits i) ∷ (rest.place i, rest.digits i) ∷ [];
     }

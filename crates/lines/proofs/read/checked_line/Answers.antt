@@ -19,4 +19,4 @@ returns-in-None c =
     let w = c.args.wanted in
     let l = c.args.line.now in
     let e = ap (λ k. first (text_faults k l)) (sym c.kind.ensures) ∙ sym c.in-None.ensures in
-    record { told = c.line-of.ensures.told ∙ sym (sound_text w l e); parts = c.line-of.ensures.parts }
+    record { told = c.line_of.ensures.told ∙ sym (sound_text w l e); parts = c.line_of.ensures.parts }

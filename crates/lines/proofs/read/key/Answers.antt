@@ -18,17 +18,17 @@ key_is l m d = content-by kind.Key l _ refl ∙ (λ i. key_of (sym m i) (sym d i
 pub returns-then-count-from : goal.returns-then-count-from
 returns-then-count-from c =
     let l = c.args.line.now in
-    let e = key_is l c.part-at-mark.ensures.digits c.tail-at-data.ensures.digits in
-    record { told = sym (judged_limits wanted.Key (content_of kind.Key l) _ e (lt-leb (length (spelled c.tail-at-data.result.digits.now)) 64 (omega (arith, c.count.ensures)))); parts = tt }
+    let e = key_is l c.part_at-mark.ensures.digits c.tail_at-data.ensures.digits in
+    record { told = sym (judged_limits wanted.Key (content_of kind.Key l) _ e (lt-leb (length (spelled c.tail_at-data.result.digits.now)) 64 (omega (arith, c.count.ensures)))); parts = tt }
 
 -- src/read.rt:118:1
 pub returns : goal.returns
 returns c =
     let l = c.args.line.now in
-    let e = key_is l c.part-at-mark.ensures.digits c.tail-at-data.ensures.digits in
-    let short = le-leb (length (spelled c.tail-at-data.result.digits.now)) 64 (omega (arith, c.count.ensures)) in
-    let mark = c.part-at-mark.ensures in
-    let rest = c.tail-at-data.ensures in
+    let e = key_is l c.part_at-mark.ensures.digits c.tail_at-data.ensures.digits in
+    let short = le-leb (length (spelled c.tail_at-data.result.digits.now)) 64 (omega (arith, c.count.ensures)) in
+    let mark = c.part_at-mark.ensures in
+    let rest = c.tail_at-data.ensures in
     record {
       told = sym (judged_ok wanted.Key (content_of kind.Key l) _ e short refl);
       parts = λ i. (mark.place i, mark.digits i) ∷ (rest.place i, rest.digits i) ∷ [];

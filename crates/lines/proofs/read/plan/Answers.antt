@@ -11,6 +11,6 @@ use Rattle.lines.proofs.read.plan.Goals as goal
 pub returns : goal.returns
 returns c =
     let l = c.args.line.now in
-    let e = content-by kind.Plan l _ (λ i. sym c.byte-at-field.ensures i ∷ sym c.byte-at-t.ensures i ∷ sym c.byte-at-n.ensures i ∷ []) in
-    let within = and_from _ _ (sym c.if-not-is-among.ensures) (sym c.if-not-is-planned.ensures) in
+    let e = content-by kind.Plan l _ (λ i. sym c.byte_at-field.ensures i ∷ sym c.byte_at-t.ensures i ∷ sym c.byte_at-n.ensures i ∷ []) in
+    let within = and_from _ _ (sym c.if-not-is_among.ensures) (sym c.if-not-is_planned.ensures) in
     record { told = sym (judged_ok (wanted.Plan c.args.marks) (content_of kind.Plan l) _ e within refl); parts = refl }

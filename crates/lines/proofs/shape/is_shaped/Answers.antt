@@ -6,12 +6,12 @@ use Rattle.lines.proofs.Fields.{shaped_more, shaped_stop, shaped_all, spaced-len
 use Rattle.lines.proofs.shape.is_shaped.Goals as goal
 
 -- src/shape.rt:35:13
-pub returns-then-not-is-spaced : goal.returns-then-not-is-spaced
-returns-then-not-is-spaced c =
+pub returns-then-not-is_spaced : goal.returns-then-not-is_spaced
+returns-then-not-is_spaced c =
     let ws = c.args.widths.now in
     let i = c.loop-w.w-index in
     let rest = drop c.loop-w.at c.args.text.now in
-    let h = c.if-not-is-spaced.ensures in
+    let h = c.if-not-is_spaced.ensures in
     let k = c.from-digits.ensures in
     let w = take_rest c.args.text.now c.loop-w.at in
     let e : spaced (2 * get_or ws i 0) rest ≡ false = cc in
@@ -26,7 +26,7 @@ loop-w-preserved c =
     let at = c.loop-w.at in
     let d = c.from-digits.result in
     let rest = drop at text in
-    let h = c.if-not-is-spaced.ensures in
+    let h = c.if-not-is_spaced.ensures in
     let k = c.from-digits.ensures in
     let w = take_rest text at in
     let e : spaced (2 * get_or ws i 0) rest ≡ true = cc in
@@ -42,11 +42,11 @@ returns-then-data c =
     let text = c.args.text.now in
     let w = take_rest text c.loop-w.at in
     let d = c.if-data.true in
-    let e = c.is-data.ensures in
+    let e = c.is_data.ensures in
     let inv = c.loop-w.invariant.1 in
     let all = shaped_all c.args.widths.now c.loop-w.w-index c.args.«data» (drop c.loop-w.at text) c.loop-w-test.false in
     let x : shaped [] c.args.«data» (drop c.loop-w.at text) ≡ shaped [] true (drop c.loop-w.at text) = cc in
-    let y : c.is-data.result ≡ shaped [] true (drop c.loop-w.at text) = rw w at e in
+    let y : c.is_data.result ≡ shaped [] true (drop c.loop-w.at text) = rw w at e in
     cc
 
 -- src/shape.rt:28:1

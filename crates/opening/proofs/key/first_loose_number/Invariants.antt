@@ -3,4 +3,4 @@ use Rattle.std.proofs.Common.{◌≡◌, ℕ, ◌<◌, ◌≤◌, get_or}
 use Rattle.opening.proofs.key.first_loose_number.Given as goal
 
 abbrev pub invariant-loop-i : goal.invariant-loop-i
-invariant-loop-i l = (k : ℕ) → l.key-length ≤ k → k < l.i → get_or l.key k 0 ≡ 0
+invariant-loop-i l = (k : ℕ) → l.key_length ≤ k → k < l.i → get_or l.key k 0 ≡ 0

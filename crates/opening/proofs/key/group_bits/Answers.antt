@@ -15,11 +15,11 @@ loop-card-preserved c =
     let small : card < 8 = omega arith in
     let weight : (1 * 2 ^ card) % 2 ^ 16 ≡ 2 ^ card = one_shl card 16 (omega arith) in
     let most : 2 ^ card ≤ 2 ^ 7 = pow_mono {i = card} {j = 7} (omega arith) in
-    elim c.if-is-among.branch [
+    elim c.if-is_among.branch [
       | then-is-among w ↦
-          let rest = bits_with (stands cards (length cards)) card n below (sym w.if-is-among.ensures) in
+          let rest = bits_with (stands cards (length cards)) card n below (sym w.if-is_among.ensures) in
           (omega (arith, w.total-is), omega (arith, w.total-is))
       | else-is-among w ↦
-          let rest = bits_without (stands cards (length cards)) card n below (sym w.if-is-among.ensures) in
+          let rest = bits_without (stands cards (length cards)) card n below (sym w.if-is_among.ensures) in
           (omega (arith, w.total-is), omega (arith, w.total-is))
     ]

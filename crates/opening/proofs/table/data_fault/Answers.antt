@@ -7,10 +7,10 @@ use Rattle.sharing.proofs.Stores.{lanes_enough}
 use Rattle.opening.proofs.Limits.{lanes-most}
 use Rattle.opening.proofs.table.data_fault.Goals as goal
 
-pub place-in-data-requires : goal.place-in-data-requires
-place-in-data-requires g c =
+pub place_in_data-requires : goal.place_in_data-requires
+place_in_data-requires g c =
     let t = c.args.t in
-    let L = c.args.key-length in
+    let L = c.args.key_length in
     let «data» = c.args.data.now in
     let same = ap (λ b. t * b) c.lanes.ensures in
     let enough = lanes_enough t L c.requires.least in

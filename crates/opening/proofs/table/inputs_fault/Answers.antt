@@ -10,33 +10,33 @@ use Rattle.opening.proofs.table.inputs_fault.Goals as goal
 pub returns-in-Some : goal.returns-in-Some
 returns-in-Some g c =
     let a = c.args in
-    let last : List Rule = (0x36, not (eqb a.place a.key-length), 0) ∷ [] in
+    let last : List Rule = (0x36, not (eqb a.place a.key_length), 0) ∷ [] in
     let p : Plan = record { t = a.t; n = a.n; rows = a.rows.now } in
     sym
     (foremost-kept (faults g.F.Field.ops p)
     (cards_table a.t a.n a.cards.now
-    ++ (data_table g.F.Field.ops a.t a.key-length a.cards.now a.data.now ++ last))
+    ++ (data_table g.F.Field.ops a.t a.key_length a.cards.now a.data.now ++ last))
     (listing c.in-Some.refusal) (sym c.in-Some.ensures))
 
-pub returns-in-Some-cards-fault : goal.returns-in-Some-cards-fault
-returns-in-Some-cards-fault g c =
+pub returns-in-Some-cards_fault : goal.returns-in-Some-cards_fault
+returns-in-Some-cards_fault g c =
     let a = c.args in
-    let last : List Rule = (0x36, not (eqb a.place a.key-length), 0) ∷ [] in
+    let last : List Rule = (0x36, not (eqb a.place a.key_length), 0) ∷ [] in
     let p : Plan = record { t = a.t; n = a.n; rows = a.rows.now } in
-    let rest = data_table g.F.Field.ops a.t a.key-length a.cards.now a.data.now ++ last in
+    let rest = data_table g.F.Field.ops a.t a.key_length a.cards.now a.data.now ++ last in
     sym
     (foremost_next (faults g.F.Field.ops p) (cards_table a.t a.n a.cards.now ++ rest) (sym c.in-default.ensures)
-    ∙ foremost-kept (cards_table a.t a.n a.cards.now) rest (listing c.in-Some-cards-fault.refusal)
-    (sym c.in-Some-cards-fault.ensures))
+    ∙ foremost-kept (cards_table a.t a.n a.cards.now) rest (listing c.in-Some-cards_fault.refusal)
+    (sym c.in-Some-cards_fault.ensures))
 
-pub returns-in-Some-data-fault : goal.returns-in-Some-data-fault
-returns-in-Some-data-fault g c =
+pub returns-in-Some-data_fault : goal.returns-in-Some-data_fault
+returns-in-Some-data_fault g c =
     let a = c.args in
-    let last : List Rule = (0x36, not (eqb a.place a.key-length), 0) ∷ [] in
+    let last : List Rule = (0x36, not (eqb a.place a.key_length), 0) ∷ [] in
     let p : Plan = record { t = a.t; n = a.n; rows = a.rows.now } in
-    let measure = data_table g.F.Field.ops a.t a.key-length a.cards.now a.data.now in
+    let measure = data_table g.F.Field.ops a.t a.key_length a.cards.now a.data.now in
     sym
     (foremost_next (faults g.F.Field.ops p) (cards_table a.t a.n a.cards.now ++ (measure ++ last))
     (sym c.in-default.ensures)
-    ∙ foremost_next (cards_table a.t a.n a.cards.now) (measure ++ last) (sym c.in-default-cards-fault.ensures)
-    ∙ foremost-kept measure last (listing c.in-Some-data-fault.refusal) (sym c.in-Some-data-fault.ensures))
+    ∙ foremost_next (cards_table a.t a.n a.cards.now) (measure ++ last) (sym c.in-default-cards_fault.ensures)
+    ∙ foremost-kept measure last (listing c.in-Some-data_fault.refusal) (sym c.in-Some-data_fault.ensures))

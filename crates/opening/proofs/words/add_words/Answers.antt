@@ -21,6 +21,6 @@ loop-y-preserved g c = (
       (let lt : c.loop-y.y < length c.loop-y.sums = omega arith in
       rw get_or-set_same
       (c.sum.ensures
-      ∙ ap₂ g.F.Field.ops.add (c.loop-y.invariant.1 c.loop-y.y (omega arith)) c.signed-number.ensures)),
+      ∙ ap₂ g.F.Field.ops.add (c.loop-y.invariant.1 c.loop-y.y (omega arith)) c.signed_number.ensures)),
   λ k h. let ne : k ≢ c.loop-y.y = omega arith in rw get_or-set_other (c.loop-y.invariant.1 k (omega arith)),
 )

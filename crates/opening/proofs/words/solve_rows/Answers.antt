@@ -8,5 +8,5 @@ loop-i-init g c = summed_none g.F.Field.ops c.args.quorum.now c.args.sums.now c.
 
 pub loop-i-preserved : goal.loop-i-preserved
 loop-i-preserved g c =
-    summed_more g.F.Field.ops c.args.quorum.now c.loop-i.i c.solve-row.new.matrix c.loop-i.sums
-    c.add-words.new.sums c.loop-i.invariant (c.if-not-solve-row.ensures.solved refl) (λ y l. c.add-words.ensures y (omega arith))
+    summed_more g.F.Field.ops c.args.quorum.now c.loop-i.i c.solve_row.new.matrix c.loop-i.sums
+    c.add_words.new.sums c.loop-i.invariant (c.if-not-solve_row.ensures.solved refl) (λ y l. c.add_words.ensures y (omega arith))

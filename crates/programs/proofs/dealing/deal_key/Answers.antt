@@ -26,21 +26,21 @@ returns-in-Ok g c =
     let r = c.in-ok-mark.ensures in
     let p = vetted_plan c.args.plan.now in
     let text = left (standing c.args.reader.now) in
-    let rest = left (standing c.read-store.new.reader) in
+    let rest = left (standing c.read_store.new.reader) in
     let st = c.deref.ensures.value ∙ r.3 in
     let nil = ended rest c.in-Ok.ensures in
-    tells_more c.write-cards.result _ (λ s. Dealt g.F.Field.ops p c.args.line text (Grants (string_bytes s))) _ (λ a. Dealt g.F.Field.ops p c.args.line text a)
+    tells_more c.write_cards.result _ (λ s. Dealt g.F.Field.ops p c.args.line text (Grants (string_bytes s))) _ (λ a. Dealt g.F.Field.ops p c.args.line text a)
     (λ s h. dealt_grants g.F.Field.ops p c.threshold.result c.in-ok-mark.mark.number c.in-ok-mark.size c.args.line r.0 r.1 text rest c.deref.result.now
     c.threshold.ensures r.2 st r.4 nil (string_bytes s) h)
     (λ a h. dealt_refuses g.F.Field.ops p c.threshold.result c.in-ok-mark.mark.number c.in-ok-mark.size c.args.line r.0 r.1 text rest c.deref.result.now
     c.threshold.ensures r.2 st r.4 nil a h)
-    c.write-cards.ensures
+    c.write_cards.ensures
 
 -- src/dealing.rt:45:1
 pub returns : goal.returns
 returns g c =
     let r = c.in-ok-mark.ensures in
     let text = left (standing c.args.reader.now) in
-    let rest = left (standing c.read-store.new.reader) in
+    let rest = left (standing c.read_store.new.reader) in
     more_text c.in-ok-mark.mark.number r.0 r.1 rest (subst (λ x. KeyLines x c.in-ok-mark.mark.number r.0 r.1 text rest) c.threshold.ensures r.2)
     (unended _ rest c.in-Err.ensures) (ap refusing c.excess.ensures)

@@ -28,7 +28,7 @@ returns g c =
     let plan = plan_of c.args.t c.args.n c.args.rows.now in
     let text = left (standing c.args.reader.now) in
     let line = ap (λ x. 1 + x) c.from.ensures in
-    tells_more c.deal-key.result _ (λ s. Examined g.F.Field.ops plan (1 + (c.args.n - c.args.t)) text (Grants (string_bytes s))) _ (λ a. Examined g.F.Field.ops plan (1 + (c.args.n - c.args.t)) text a)
+    tells_more c.deal_key.result _ (λ s. Examined g.F.Field.ops plan (1 + (c.args.n - c.args.t)) text (Grants (string_bytes s))) _ (λ a. Examined g.F.Field.ops plan (1 + (c.args.n - c.args.t)) text a)
     (λ s d. examined_by g.F.Field.ops plan (vetted_plan c.in-ok-plan.plan) (1 + c.from.result) (1 + (c.args.n - c.args.t)) text (Grants (string_bytes s)) r.0 r.1 line d)
     (λ a d. examined_by g.F.Field.ops plan (vetted_plan c.in-ok-plan.plan) (1 + c.from.result) (1 + (c.args.n - c.args.t)) text a r.0 r.1 line d)
-    c.deal-key.ensures
+    c.deal_key.ensures

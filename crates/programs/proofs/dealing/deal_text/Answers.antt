@@ -21,8 +21,8 @@ returns-in-err-plan c =
     rw (p.1, p.2)
     (stops_more _ (λ a. Unplanned c.args.text.now a) (λ a. Dealing c.args.text.now a) (λ a u. unplanned u) c.in-err-plan.ensures)
 
-pub deal-plan-requires : goal.deal-plan-requires
-deal-plan-requires c =
+pub deal_plan-requires : goal.deal_plan-requires
+deal_plan-requires c =
     let x = c.in-ok-plan.field-0 in
     let lines = c.in-ok-plan.ensures in
     record {
@@ -41,8 +41,8 @@ returns-in-Bytes c =
     tells_more c.deal_plan.result _ (λ s. Dealing c.args.text.now (Grants (string_bytes s))) _ (λ a. Dealing c.args.text.now a)
     (λ s e. all (Grants (string_bytes s)) (whole (Grants (string_bytes s)) e)) (λ a e. all a (whole a e)) c.deal_plan.ensures
 
-pub deal-plan-requires-in-Modulo97 : goal.deal-plan-requires-in-Modulo97
-deal-plan-requires-in-Modulo97 c =
+pub deal_plan-requires-in-Modulo97 : goal.deal_plan-requires-in-Modulo97
+deal_plan-requires-in-Modulo97 c =
     let x = c.in-ok-plan.field-0 in
     let lines = c.in-ok-plan.ensures in
     record {
@@ -58,5 +58,5 @@ returns c =
     (vec_items x.rows) c.in-Modulo97.is c.deref-in-Modulo97.ensures.value in
     let all : (a : Answer) → Examined (operations x.plan.known) (plan_of x.plan.t x.plan.n (vec_items x.rows)) (1 + (x.plan.n - x.plan.t)) rest a → Dealing c.args.text.now a =
     λ a e. planned x.plan.known x.plan.t x.plan.n (vec_items x.rows) rest c.in-ok-plan.ensures e in
-    tells_more c.deal-plan-in-Modulo97.result _ (λ s. Dealing c.args.text.now (Grants (string_bytes s))) _ (λ a. Dealing c.args.text.now a)
-    (λ s e. all (Grants (string_bytes s)) (whole (Grants (string_bytes s)) e)) (λ a e. all a (whole a e)) c.deal-plan-in-Modulo97.ensures
+    tells_more c.deal_plan-in-Modulo97.result _ (λ s. Dealing c.args.text.now (Grants (string_bytes s))) _ (λ a. Dealing c.args.text.now a)
+    (λ s e. all (Grants (string_bytes s)) (whole (Grants (string_bytes s)) e)) (λ a e. all a (whole a e)) c.deal_plan-in-Modulo97.ensures

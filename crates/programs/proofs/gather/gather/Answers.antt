@@ -17,13 +17,13 @@ use Rattle.programs.proofs.gather.gather.Goals as goal
 pub loop-k-init : goal.loop-k-init
 loop-k-init g c = ((c.requires.empty, refl), c.requires.short)
 
-pub put-in-requires : goal.put-in-requires
-put-in-requires g c =
+pub put_in-requires : goal.put_in-requires
+put_in-requires g c =
     let text = left (standing c.loop-k.reader) in
     omega (arith, c.loop-k.invariant.1, ap length c.skip.ensures.value, length-take (length (head text) + 1) text)
 
-pub returns-in-err-put-in : goal.returns-in-err-put-in
-returns-in-err-put-in g c =
+pub returns-in-err-put_in : goal.returns-in-err-put_in
+returns-in-err-put_in g c =
     let p = err_from_is_err_and c.from-residual.result c.from-residual.ensures.1 in
     let o = g.F.Field.ops in
     let s = holding c.loop-k.slot.state in
@@ -33,7 +33,7 @@ returns-in-err-put-in g c =
     (λ a. Ungathered o c.args.t c.args.line text a)
     (λ a r. line_refuses o c.args.t c.args.line text c.loop-k.k c.from.result s (left (standing c.loop-k.reader)) c.skip.result.now
     c.from.ensures c.loop-k.invariant.1 c.loop-k.invariant.0 a c.skip.ensures.value (omega (arith, c.loop-k-test.true)) r)
-    c.in-err-put-in.ensures)
+    c.in-err-put_in.ensures)
 
 pub loop-k-preserved : goal.loop-k-preserved
 loop-k-preserved g c =
@@ -41,12 +41,12 @@ loop-k-preserved g c =
     let on = ap left c.skip.ensures.after ∙ skipped-left (standing c.loop-k.reader) in (
       line_takes g.F.Field.ops c.args.t c.args.line (left (standing c.args.reader.now)) c.loop-k.k c.from.result
           (holding c.loop-k.slot.state) middle c.skip.result.now c.from.ensures c.loop-k.invariant.1 c.loop-k.invariant.0
-          (holding c.put-in.new.slot.state) (left (standing c.skip.new.self)) c.skip.ensures.value on c.in-ok-put-in.ensures,
+          (holding c.put_in.new.slot.state) (left (standing c.skip.new.self)) c.skip.ensures.value on c.in-ok-put_in.ensures,
       omega (arith, c.loop-k.invariant.1, ap length on, length-drop (length (head middle) + 1) middle),
     )
 
-pub put-in-requires-2 : goal.put-in-requires-2
-put-in-requires-2 g c = omega (arith, c.loop-k.invariant.1, ap length c.rest.ensures)
+pub put_in-requires-2 : goal.put_in-requires-2
+put_in-requires-2 g c = omega (arith, c.loop-k.invariant.1, ap length c.rest.ensures)
 
 pub returns : goal.returns
 returns g c =
@@ -56,9 +56,9 @@ returns g c =
     let middle = left (standing c.loop-k.reader) in
     let last : c.loop-k.k + 1 ≡ c.args.t = omega arith in
     let here : c.from-2.result ≡ c.loop-k.k = omega arith in
-    tells_more c.put-in-2.result _ (λ u. Taken o c.args.t text (holding c.put-in-2.new.slot.state) []) _ (λ a. Ungathered o c.args.t c.args.line text a)
+    tells_more c.put_in-2.result _ (λ u. Taken o c.args.t text (holding c.put_in-2.new.slot.state) []) _ (λ a. Ungathered o c.args.t c.args.line text a)
     (λ u r. last_takes o c.args.t c.args.line text c.loop-k.k c.from-2.result s middle c.rest.result.now here c.loop-k.invariant.1 c.loop-k.invariant.0
-    (holding c.put-in-2.new.slot.state) c.rest.ensures last r)
+    (holding c.put_in-2.new.slot.state) c.rest.ensures last r)
     (λ a r. last_refuses o c.args.t c.args.line text c.loop-k.k c.from-2.result s middle c.rest.result.now here c.loop-k.invariant.1 c.loop-k.invariant.0
     a c.rest.ensures last r)
-    c.put-in-2.ensures
+    c.put_in-2.ensures

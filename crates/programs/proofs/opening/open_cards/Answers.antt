@@ -13,7 +13,7 @@ use Rattle.programs.proofs.opening.open_cards.Goals as goal
 pub returns : goal.returns
 returns c =
     let text = c.args.text.now in
-    let opening = λ (a : Answer) (w : Says string_bytes c.open-text.result a). said string_bytes c.open-text.result (λ b. Opening text b) a c.open-text.ensures w in
+    let opening = λ (a : Answer) (w : Says string_bytes c.open_text.result a). said string_bytes c.open_text.result (λ b. Opening text b) a c.open_text.ensures w in
     record {
       answer = IfOk-weaker c.say.result _ _ (λ o s. (s.0, opening s.0 s.1, s.2, s.3)) c.say.ensures;
       only = IfOk-weaker c.say.result _ _ (λ o s. only_opening text s.0 (string_bytes o.text) o.granted (opening s.0 s.1) s.2 s.3) c.say.ensures;

@@ -23,8 +23,8 @@ returns-in-err-gather g c =
     (stops_more _ (λ a. Ungathered o c.args.t (1 + c.from.result) text a) (λ a. Tried o plan (1 + (c.args.n - c.args.t)) text a)
     (λ a u. ungathered c.in-ok-plan.ensures.0 (subst (λ l. Ungathered o c.args.t l text a) (ap (λ x. 1 + x) c.from.ensures) u)) c.in-err-gather.ensures)
 
-pub open-slot-requires : goal.open-slot-requires
-open-slot-requires g c =
+pub open_slot-requires : goal.open_slot-requires
+open_slot-requires g c =
     taken-first g.F.Field.ops (left (standing c.args.reader.now)) c.args.t (holding c.gather.new.slot.state) _ (omega arith) c.in-ok-gather.ensures
 
 pub returns : goal.returns
@@ -36,7 +36,7 @@ returns g c =
     let s = holding c.gather.new.slot.state in
     let line = 1 + (c.args.n - c.args.t) in
     let taken = c.in-ok-gather.ensures in
-    tells_more c.open-slot.result _ (λ x. Tried o plan line text (Grants (string_bytes x))) _ (λ b. Tried o plan line text b)
+    tells_more c.open_slot.result _ (λ x. Tried o plan line text (Grants (string_bytes x))) _ (λ b. Tried o plan line text b)
     (λ x u. gathered a.0 s taken (subst (λ q. Unlocking o q s (Grants (string_bytes x))) a.1 u))
     (λ b u. gathered a.0 s taken (subst (λ q. Unlocking o q s b) a.1 u))
-    c.open-slot.ensures
+    c.open_slot.ensures

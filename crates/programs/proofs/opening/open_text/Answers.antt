@@ -21,8 +21,8 @@ returns-in-err-plan c =
     rw (p.1, p.2)
     (stops_more _ (λ a. Unplanned c.args.text.now a) (λ a. Opening c.args.text.now a) (λ a u. unplanned u) c.in-err-plan.ensures)
 
-pub open-plan-requires : goal.open-plan-requires
-open-plan-requires c =
+pub open_plan-requires : goal.open_plan-requires
+open_plan-requires c =
     let x = c.in-ok-plan.field-0 in
     let lines = c.in-ok-plan.ensures in
     record {
@@ -38,11 +38,11 @@ returns-in-Bytes c =
     (vec_items x.rows) c.in-Bytes.is c.deref.ensures.value in
     let all : (a : Answer) → Tried (operations x.plan.known) (plan_of x.plan.t x.plan.n (vec_items x.rows)) (1 + (x.plan.n - x.plan.t)) rest a → Opening c.args.text.now a =
     λ a e. planned x.plan.known x.plan.t x.plan.n (vec_items x.rows) rest c.in-ok-plan.ensures e in
-    tells_more c.open-plan.result _ (λ s. Opening c.args.text.now (Grants (string_bytes s))) _ (λ a. Opening c.args.text.now a)
-    (λ s e. all (Grants (string_bytes s)) (whole (Grants (string_bytes s)) e)) (λ a e. all a (whole a e)) c.open-plan.ensures
+    tells_more c.open_plan.result _ (λ s. Opening c.args.text.now (Grants (string_bytes s))) _ (λ a. Opening c.args.text.now a)
+    (λ s e. all (Grants (string_bytes s)) (whole (Grants (string_bytes s)) e)) (λ a e. all a (whole a e)) c.open_plan.ensures
 
-pub open-plan-requires-in-Modulo97 : goal.open-plan-requires-in-Modulo97
-open-plan-requires-in-Modulo97 c =
+pub open_plan-requires-in-Modulo97 : goal.open_plan-requires-in-Modulo97
+open_plan-requires-in-Modulo97 c =
     let x = c.in-ok-plan.field-0 in
     let lines = c.in-ok-plan.ensures in
     record {
@@ -58,5 +58,5 @@ returns c =
     (vec_items x.rows) c.in-Modulo97.is c.deref-in-Modulo97.ensures.value in
     let all : (a : Answer) → Tried (operations x.plan.known) (plan_of x.plan.t x.plan.n (vec_items x.rows)) (1 + (x.plan.n - x.plan.t)) rest a → Opening c.args.text.now a =
     λ a e. planned x.plan.known x.plan.t x.plan.n (vec_items x.rows) rest c.in-ok-plan.ensures e in
-    tells_more c.open-plan-in-Modulo97.result _ (λ s. Opening c.args.text.now (Grants (string_bytes s))) _ (λ a. Opening c.args.text.now a)
-    (λ s e. all (Grants (string_bytes s)) (whole (Grants (string_bytes s)) e)) (λ a e. all a (whole a e)) c.open-plan-in-Modulo97.ensures
+    tells_more c.open_plan-in-Modulo97.result _ (λ s. Opening c.args.text.now (Grants (string_bytes s))) _ (λ a. Opening c.args.text.now a)
+    (λ s e. all (Grants (string_bytes s)) (whole (Grants (string_bytes s)) e)) (λ a e. all a (whole a e)) c.open_plan-in-Modulo97.ensures

@@ -9,8 +9,8 @@ use Rattle.programs.proofs.Chain.{passed_by, unvetted_by}
 use Rattle.programs.proofs.Heads.{stops_more}
 use Rattle.programs.proofs.plans.vet_plan.Goals as goal
 
-pub admit-plan-requires : goal.admit-plan-requires
-admit-plan-requires g c = length-replicate {A = ℕ} 4096 0
+pub admit_plan-requires : goal.admit_plan-requires
+admit_plan-requires g c = length-replicate {A = ℕ} 4096 0
 
 pub returns-in-err-admitted : goal.returns-in-err-admitted
 returns-in-err-admitted g c =
@@ -29,4 +29,4 @@ pub returns-in-Err : goal.returns-in-Err
 returns-in-Err g c =
     let a = c.in-ok-admitted.ensures in
     unvetted_by g.F.Field.ops (plan_of c.args.t c.args.n c.args.rows.now) _ a.1 a.0
-    _ c.in-Err.refusal.refusal c.refused.result (c.admit-plan.auto.workspace ∙ length-replicate {A = ℕ} 4096 0) c.in-Err.ensures.answer c.refused.ensures
+    _ c.in-Err.refusal.refusal c.refused.result (c.admit_plan.auto.workspace ∙ length-replicate {A = ℕ} 4096 0) c.in-Err.ensures.answer c.refused.ensures

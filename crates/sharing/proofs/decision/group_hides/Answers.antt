@@ -19,8 +19,8 @@ slice-bounds-matrix-end-2 g c =
     (length-take-le (((c.args.t - 1) * c.args.t) * ((c.args.t - 1) * c.args.t)) c.args.workspace.now
     (hiding_room c.requires.sound c.args.workspace.now c.requires.room))
 
-pub lay-hiding-requires : goal.lay-hiding-requires
-lay-hiding-requires g c = record {
+pub lay_hiding-requires : goal.lay_hiding-requires
+lay_hiding-requires g c = record {
   limits = (c.requires.sound.least, (c.requires.sound.ordered, c.requires.sound.most));
   lengths = (
     c.requires.sound.long,
@@ -32,11 +32,11 @@ lay-hiding-requires g c = record {
   );
 }
 
-pub sends-only-zero-requires : goal.sends-only-zero-requires
-sends-only-zero-requires g c =
+pub sends_only_zero-requires : goal.sends_only_zero-requires
+sends_only_zero-requires g c =
     let p : Plan = plan_of c.args.t c.args.n c.args.rows.now in
     let size : ℕ = (c.args.t - 1) * c.args.t in
-    subst (Matrix g.F.Field.ops size size) (sym c.lay-hiding.ensures)
+    subst (Matrix g.F.Field.ops size size) (sym c.lay_hiding.ensures)
     (hiding_codes g.met.F.Field.lawful p c.requires.sound c.args.group.now)
 
 pub returns : goal.returns
@@ -48,9 +48,9 @@ returns g c =
     let same = only_zero_laid_out g.F.Field.ops size (hiding_matrix p c.args.group.now) in
     let exactly = (hides_exactly laws p c.args.group.now c.requires.sound c.requires.cards).0 in
     record {
-      yes = λ is. exactly.1 (same.0 (subst P c.lay-hiding.ensures (c.sends-only-zero.ensures.yes is)));
+      yes = λ is. exactly.1 (same.0 (subst P c.lay_hiding.ensures (c.sends_only_zero.ensures.yes is)));
       no = λ is hides.
-          c.sends-only-zero.ensures.no is (subst P (sym c.lay-hiding.ensures) (same.1 (exactly.0 hides)));
-      rest = rest-kept (size * size) c.sends-only-zero.new.matrix c.args.workspace.now
-          (hiding_room c.requires.sound c.args.workspace.now c.requires.room) (c.sends-only-zero.auto.matrix ∙ c.lay-hiding.auto.matrix);
+          c.sends_only_zero.ensures.no is (subst P (sym c.lay_hiding.ensures) (same.1 (exactly.0 hides)));
+      rest = rest-kept (size * size) c.sends_only_zero.new.matrix c.args.workspace.now
+          (hiding_room c.requires.sound c.args.workspace.now c.requires.room) (c.sends_only_zero.auto.matrix ∙ c.lay_hiding.auto.matrix);
     }

@@ -18,8 +18,8 @@ slice-bounds-matrix-end-2 g c =
     (length-take-le (c.args.t * c.args.t) c.args.workspace.now
     (opening-room c.requires.sound c.args.workspace.now c.requires.room))
 
-pub row-opens-requires : goal.row-opens-requires
-row-opens-requires g c = record {
+pub row_opens-requires : goal.row_opens-requires
+row_opens-requires g c = record {
   sound = c.requires.sound;
   sizes = (
     c.loop-i-test.true,
@@ -32,22 +32,22 @@ row-opens-requires g c = record {
   );
 }
 
-pub returns-then-not-row-opens : goal.returns-then-not-row-opens
-returns-then-not-row-opens g c =
+pub returns-then-not-row_opens : goal.returns-then-not-row_opens
+returns-then-not-row_opens g c =
     let p : Plan = plan_of c.args.t c.args.n c.args.rows.now in
     record {
       yes = λ is. absurd (false≢true is);
       no = λ is opens.
-          c.row-opens.ensures.no c.if-not-row-opens.true
+          c.row_opens.ensures.no c.if-not-row_opens.true
           ((opens_exactly g.met.F.Field.lawful p c.args.group.now c.requires.sound c.requires.cards).0 opens c.loop-i.i c.loop-i-test.true);
-      rest = rest-kept (c.args.t * c.args.t) c.row-opens.new.matrix c.args.workspace.now
-          (opening-room c.requires.sound c.args.workspace.now c.requires.room) (c.row-opens.auto.matrix ∙ c.loop-i.auto.matrix);
+      rest = rest-kept (c.args.t * c.args.t) c.row_opens.new.matrix c.args.workspace.now
+          (opening-room c.requires.sound c.args.workspace.now c.requires.room) (c.row_opens.auto.matrix ∙ c.loop-i.auto.matrix);
     }
 
 pub loop-i-preserved : goal.loop-i-preserved
 loop-i-preserved g c =
     below_more (λ k. OnlyZero g.F.Field.ops c.args.t (opening_matrix (plan_of c.args.t c.args.n c.args.rows.now) c.args.group.now k))
-    c.loop-i.i c.loop-i.invariant (c.row-opens.ensures.yes c.if-not-row-opens.false)
+    c.loop-i.i c.loop-i.invariant (c.row_opens.ensures.yes c.if-not-row_opens.false)
 
 pub returns : goal.returns
 returns g c =

@@ -7,10 +7,10 @@ use Rattle.sharing.specs.Systems.{OnlyZero, opening_matrix}
 use Rattle.sharing.proofs.LaidOut.{opening_codes, only_zero_laid_out}
 use Rattle.sharing.proofs.decision.row_opens.Goals as goal
 
-pub sends-only-zero-requires : goal.sends-only-zero-requires
-sends-only-zero-requires g c =
+pub sends_only_zero-requires : goal.sends_only_zero-requires
+sends_only_zero-requires g c =
     let p : Plan = plan_of c.args.t c.args.n c.args.rows.now in
-    subst (Matrix g.F.Field.ops c.args.t c.args.t) (sym c.lay-opening.ensures)
+    subst (Matrix g.F.Field.ops c.args.t c.args.t) (sym c.lay_opening.ensures)
     (opening_codes g.met.F.Field.lawful p c.requires.sound c.args.group.now _)
 
 pub returns : goal.returns
@@ -19,6 +19,6 @@ returns g c =
     let P : List ℕ → Type 0 = λ s. OnlyZero g.F.Field.ops c.args.t (entry c.args.t s) in
     let same = only_zero_laid_out g.F.Field.ops c.args.t a in
     record {
-      yes = λ is. same.0 (subst P c.lay-opening.ensures (c.sends-only-zero.ensures.yes is));
-      no = λ is only. c.sends-only-zero.ensures.no is (subst P (sym c.lay-opening.ensures) (same.1 only));
+      yes = λ is. same.0 (subst P c.lay_opening.ensures (c.sends_only_zero.ensures.yes is));
+      no = λ is only. c.sends_only_zero.ensures.no is (subst P (sym c.lay_opening.ensures) (same.1 only));
     }

@@ -7,8 +7,8 @@ use Rattle.sharing.specs.Scheme.{plan_of}
 use Rattle.sharing.specs.Systems.{hiding_matrix}
 use Rattle.sharing.proofs.matrices.lay_hiding.Goals as goal
 
-pub hiding-number-requires : goal.hiding-number-requires
-hiding-number-requires c =
+pub hiding_number-requires : goal.hiding_number-requires
+hiding_number-requires c =
     let size : ℕ = (c.args.t - 1) * c.args.t in
     let some : 1 ≤ size = mul-le 1 1 (c.args.t - 1) c.args.t (omega arith) (omega arith) in
     let equation : c.loop-x.x / size < size = div_below c.loop-x.x size size some (omega arith) in
@@ -21,7 +21,7 @@ pub loop-x-preserved : goal.loop-x-preserved
 loop-x-preserved c =
     let size : ℕ = (c.args.t - 1) * c.args.t in
     let entry : ℕ → ℕ = λ k. hiding_matrix (plan_of c.args.t c.args.n c.args.rows.now) c.args.group.now (k / size) (k % size) in
-    rw c.hiding-number.ensures (fill_by_more entry c.loop-x.matrix c.loop-x.x 0 (omega arith) c.loop-x.invariant)
+    rw c.hiding_number.ensures (fill_by_more entry c.loop-x.matrix c.loop-x.x 0 (omega arith) c.loop-x.invariant)
 
 pub returns : goal.returns
 returns c =

@@ -7,8 +7,8 @@ use Rattle.sharing.specs.Scheme.{plan_of}
 use Rattle.sharing.specs.Systems.{opening_matrix}
 use Rattle.sharing.proofs.matrices.lay_opening.Goals as goal
 
-pub opening-number-requires : goal.opening-number-requires
-opening-number-requires c =
+pub opening_number-requires : goal.opening_number-requires
+opening_number-requires c =
     let row = div_below c.loop-x.x c.args.t c.args.t (omega arith) (omega arith) in
     let place = mod_below c.loop-x.x c.args.t (omega arith) in
     omega arith
@@ -16,7 +16,7 @@ opening-number-requires c =
 pub loop-x-preserved : goal.loop-x-preserved
 loop-x-preserved c =
     let entry : ℕ → ℕ = λ k. opening_matrix (plan_of c.args.t c.args.n c.args.rows.now) c.args.group.now c.args.i (k / c.args.t) (k % c.args.t) in
-    rw c.opening-number.ensures (fill_by_more entry c.loop-x.matrix c.loop-x.x 0 (omega arith) c.loop-x.invariant)
+    rw c.opening_number.ensures (fill_by_more entry c.loop-x.matrix c.loop-x.x 0 (omega arith) c.loop-x.invariant)
 
 pub returns : goal.returns
 returns c =

@@ -14,7 +14,7 @@ returns-in-err-line c =
     let o = c.in-ok-reader.ensures in
     let b = c.in-err-line.ensures in
     rw (p.1, p.2) (record {
-      told = line_fault c.args.mark c.args.text.now s o c.in-err-line.field-0.0 (b.told ∙ ap (λ w. reading w (left s)) c.a-card.ensures);
+      told = line_fault c.args.mark c.args.text.now s o c.in-err-line.field-0.0 (b.told ∙ ap (λ w. reading w (left s)) c.a_card.ensures);
       parts = tt;
       kept = tt;
     })
@@ -28,7 +28,7 @@ returns-in-err-end c =
     let b = c.in-err-end.ensures in
     rw (p.1, p.2) (record {
       told = more_fault c.args.mark c.args.text.now s o (content c.in-ok-line.line) c.in-err-end.field-0.0
-          (a.told ∙ ap (λ w. reading w (left s)) c.a-card.ensures) (b ∙ ap (λ x. ending (left x)) a.after);
+          (a.told ∙ ap (λ w. reading w (left s)) c.a_card.ensures) (b ∙ ap (λ x. ending (left x)) a.after);
       parts = tt;
       kept = tt;
     })
@@ -42,8 +42,8 @@ returns c =
     let l = content c.in-ok-line.line in
     record {
       told = one_card c.args.mark c.args.text.now s o l c.in-ok-end.field-0
-          (a.told ∙ ap (λ w. reading w (left s)) c.a-card.ensures) (b ∙ ap (λ x. ending (left x)) a.after);
-      parts = a.parts ∙ ap (λ w. parts_of (kind_of w) (head (left s))) c.a-card.ensures
+          (a.told ∙ ap (λ w. reading w (left s)) c.a_card.ensures) (b ∙ ap (λ x. ending (left x)) a.after);
+      parts = a.parts ∙ ap (λ w. parts_of (kind_of w) (head (left s))) c.a_card.ensures
           ∙ ap (λ x. parts_of kind.Card (head x)) (opened-left c.args.text.now s o);
-      kept = subst (λ w. Kept w l) c.a-card.ensures a.kept;
+      kept = subst (λ w. Kept w l) c.a_card.ensures a.kept;
     }

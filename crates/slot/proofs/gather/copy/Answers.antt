@@ -5,5 +5,5 @@ use Rattle.slot.proofs.gather.copy.Goals as goal
 
 pub returns : goal.returns
 returns c =
-    part_laid c.args.data.now c.args.at (length c.args.card.now) c.copy-from-slice.new.self c.args.card.now
-    c.copy-from-slice.ensures.after refl
+    part_laid c.args.data.now c.args.at (length c.args.card.now) c.copy_from_slice.new.self c.args.card.now
+    c.copy_from_slice.ensures.after refl

@@ -10,19 +10,19 @@ use Rattle.survey.proofs.Judging.{rows_fit, shut, opening, telling, vetted, only
 use Rattle.survey.proofs.verdict.judge.Goals as goal
 
 pub slice-bounds-place-end : goal.slice-bounds-place-end
-slice-bounds-place-end g c = rows_fit c.args.t c.args.n (sym c.if-not-within-limits.ensures)
+slice-bounds-place-end g c = rows_fit c.args.t c.args.n (sym c.if-not-within_limits.ensures)
 
 pub slice-bounds-rows-end : goal.slice-bounds-rows-end
 slice-bounds-rows-end g c =
     sym
     (length-take-le ((c.args.n - c.args.t) * c.args.t) _
-    (rows_fit c.args.t c.args.n (sym c.if-not-within-limits.ensures)))
+    (rows_fit c.args.t c.args.n (sym c.if-not-within_limits.ensures)))
 
 pub returns-in-Err : goal.returns-in-Err
 returns-in-Err g c =
     let t = c.args.t in
     let n = c.args.n in
-    let within = c.if-not-within-limits.ensures in
+    let within = c.if-not-within_limits.ensures in
     absurd
     (some_none (listing c.in-Err.field-0)
     (c.in-Err.ensures.refusal ∙ sym (no_fault t n _ within (length-take-le ((n - t) * t) _ (rows_fit t n (sym within))))))
@@ -32,7 +32,7 @@ returns-in-Err-admit g c =
     let laws = g.met.F.Field.lawful in
     let t = c.args.t in
     let n = c.args.n in
-    let inside = sym c.if-not-within-limits.ensures in
+    let inside = sym c.if-not-within_limits.ensures in
     let same = c.new.ensures ∙ ap (plan_of t n) c.in-default.ensures.filled in
     let judged =
     shut laws t n inside _ same _ c.in-Err-admit.shut.refusal c.carried.result c.carried.ensures (length-replicate {A = ℕ} 4096 0)
@@ -45,7 +45,7 @@ returns-in-Ok-vet g c =
     let laws = g.met.F.Field.lawful in
     let t = c.args.t in
     let n = c.args.n in
-    let inside = sym c.if-not-within-limits.ensures in
+    let inside = sym c.if-not-within_limits.ensures in
     let same = c.new.ensures ∙ ap (plan_of t n) c.in-default.ensures.filled in
     let opens = opening laws t n inside _ same _ c.in-Ok.ensures.grants in
     let judged = vetted laws t n inside _ (c.in-Ok.ensures.plan ∙ same) _ opens c.in-Ok-vet.ensures.grants in
@@ -56,7 +56,7 @@ returns-in-Err-vet g c =
     let laws = g.met.F.Field.lawful in
     let t = c.args.t in
     let n = c.args.n in
-    let inside = sym c.if-not-within-limits.ensures in
+    let inside = sym c.if-not-within_limits.ensures in
     let same = c.new.ensures ∙ ap (plan_of t n) c.in-default.ensures.filled in
     let opens = opening laws t n inside _ same _ c.in-Ok.ensures.grants in
     let judged =

@@ -19,7 +19,7 @@ pub loop-preserved : goal.loop-preserved
 unfolding raised
 loop-preserved c =
     c.product-power.ensures.value
-    ∙ product_bytes c.product.result c.args.a c.product.type-inv (omega arith)
+    ∙ product_bytes c.product.result c.args.a c.product.type_inv (omega arith)
     ∙ ap (λ x. by x c.args.a) (squared c.loop.counter c.args.a c.loop.power c.product.result c.loop.invariant c.product.ensures.value)
     ∙ sym (ap (λ k. raised k c.args.a) (add-one c.loop.counter))
 

@@ -23,30 +23,30 @@ pub returns-in-Plan-clause-writes : goal.returns-in-Plan-clause-writes
 returns-in-Plan-clause-writes g c p ok =
     put_value g.W.Write.write_str_gives _ _ kind.Plan _ _ [] c.in-Plan.is refl
     (λ i. c.from.ensures i ∷ c.from-in-Plan.ensures i ∷ c.from-in-Plan-2.ensures i ∷ [])
-    (c.put-line.ensures p ok)
+    (c.put_line.ensures p ok)
 
 -- src/entry.rt:30:5
 pub returns-in-Row-clause-writes : goal.returns-in-Row-clause-writes
-returns-in-Row-clause-writes g c p ok = put_value g.W.Write.write_str_gives _ _ kind.Row [] [] _ c.in-Row.is refl refl (c.put-line-in-Row.ensures p ok)
+returns-in-Row-clause-writes g c p ok = put_value g.W.Write.write_str_gives _ _ kind.Row [] [] _ c.in-Row.is refl refl (c.put_line-in-Row.ensures p ok)
 
 -- src/entry.rt:30:5
 pub returns-in-Card-clause-writes : goal.returns-in-Card-clause-writes
 returns-in-Card-clause-writes g c p ok =
     put_value g.W.Write.write_str_gives _ _ kind.Card _ _ _ c.in-Card.is refl
     (λ i. c.from-in-Card.ensures i ∷ c.in-Card.mark.number ∷ c.from-in-Card-2.ensures i ∷ c.from-in-Card-3.ensures i ∷ c.from-in-Card-4.ensures i ∷ c.from-in-Card-5.ensures i ∷ [])
-    (c.put-line-in-Card.ensures p ok)
+    (c.put_line-in-Card.ensures p ok)
 
 -- src/entry.rt:30:5
 pub returns-in-Key-clause-writes : goal.returns-in-Key-clause-writes
-returns-in-Key-clause-writes g c p ok = put_value g.W.Write.write_str_gives _ _ kind.Key _ _ _ c.in-Key.is refl refl (c.put-line-in-Key.ensures p ok)
+returns-in-Key-clause-writes g c p ok = put_value g.W.Write.write_str_gives _ _ kind.Key _ _ _ c.in-Key.is refl refl (c.put_line-in-Key.ensures p ok)
 
 -- src/entry.rt:30:5
 pub returns-in-Dummy-clause-writes : goal.returns-in-Dummy-clause-writes
-returns-in-Dummy-clause-writes g c p ok = put_value g.W.Write.write_str_gives _ _ kind.Dummy [] [] _ c.in-Dummy.is refl refl (c.put-line-in-Dummy.ensures p ok)
+returns-in-Dummy-clause-writes g c p ok = put_value g.W.Write.write_str_gives _ _ kind.Dummy [] [] _ c.in-Dummy.is refl refl (c.put_line-in-Dummy.ensures p ok)
 
 -- src/entry.rt:30:5
 pub returns-in-Refusal-clause-writes : goal.returns-in-Refusal-clause-writes
 returns-in-Refusal-clause-writes g c p ok =
     put_value g.W.Write.write_str_gives _ _ kind.Refusal _ _ [] c.in-Refusal.is refl
     (λ i. c.from-in-Refusal.ensures i ∷ c.from-in-Refusal-2.ensures i ∷ c.from-in-Refusal-3.ensures i ∷ [])
-    (c.put-line-in-Refusal.ensures p ok)
+    (c.put_line-in-Refusal.ensures p ok)

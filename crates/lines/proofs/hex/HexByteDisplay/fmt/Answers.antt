@@ -10,8 +10,8 @@ two a b x y p q e f = (λ i. encode_ascii a p i ++ encode_ascii b q i) ∙ (λ i
 -- src/hex.rt:19:5
 pub returns-clause-writes : goal.returns-clause-writes
 returns-clause-writes g c =
-    let e = c.from-high.ensures ∙ c.digit-of.ensures.value in
-    let f = c.from-low.ensures ∙ c.digit-of-2.ensures.value in
-    let p : c.from-high.result < 128 = omega (arith, c.digit-of.ensures.bound, c.from-high.ensures) in
-    let q : c.from-low.result < 128 = omega (arith, c.digit-of-2.ensures.bound, c.from-low.ensures) in
+    let e = c.from-high.ensures ∙ c.digit_of.ensures.value in
+    let f = c.from-low.ensures ∙ c.digit_of-2.ensures.value in
+    let p : c.from-high.result < 128 = omega (arith, c.digit_of.ensures.bound, c.from-high.ensures) in
+    let q : c.from-low.result < 128 = omega (arith, c.digit_of-2.ensures.bound, c.from-low.ensures) in
     rw (two c.from-high.result c.from-low.result _ _ p q e f) at c.write.ensures.writes

@@ -12,12 +12,12 @@ room : (ds : List ℕ) (i : ℕ) → i < mark_bytes → numeral (take i (spelled
 room ds i h = numeral_below (take i (spelled ds)) 3 (All-take (λ d. d < 256) i (spelled ds) (under_spelled ds)) (omega (arith, length-take i (spelled ds)))
 
 -- src/mark.rt:28:22
-pub overflow-mul-number : goal.overflow-mul-number
-overflow-mul-number c = omega (arith, c.loop-i.invariant, room c.args.part.digits.now c.loop-i.i (omega (arith, c.min-n.ensures, c.from.ensures)))
+pub overflow_mul-number : goal.overflow_mul-number
+overflow_mul-number c = omega (arith, c.loop-i.invariant, room c.args.part.digits.now c.loop-i.i (omega (arith, c.min-n.ensures, c.from.ensures)))
 
 -- src/mark.rt:28:22
-pub overflow-add-number : goal.overflow-add-number
-overflow-add-number c = omega (arith, c.loop-i.invariant, room c.args.part.digits.now c.loop-i.i (omega (arith, c.min-n.ensures, c.from.ensures)))
+pub overflow_add-number : goal.overflow_add-number
+overflow_add-number c = omega (arith, c.loop-i.invariant, room c.args.part.digits.now c.loop-i.i (omega (arith, c.min-n.ensures, c.from.ensures)))
 
 -- src/mark.rt:27:9
 pub loop-i-preserved : goal.loop-i-preserved

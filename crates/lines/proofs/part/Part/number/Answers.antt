@@ -13,7 +13,7 @@ returns-then-k-self c =
 -- src/part.rt:23:5
 pub returns : goal.returns
 returns c =
-    let a = c.digit-value.ensures.value in
-    let b = c.digit-value-2.ensures.value in
+    let a = c.digit_value.ensures.value in
+    let b = c.digit_value-2.ensures.value in
     let e = slice_index-spelled c.args.self.now.digits.now c.args.k (omega arith) in
     cc

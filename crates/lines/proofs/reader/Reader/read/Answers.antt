@@ -14,8 +14,8 @@ use Rattle.lines.proofs.Rewriting.{rewrites}
 use Rattle.lines.proofs.reader.Reader.read.Goals as goal
 
 -- src/reader.rt:66:17
-pub overflow-add-self-in-Ok : goal.overflow-add-self-in-Ok
-overflow-add-self-in-Ok c =
+pub overflow_add-self-in-Ok : goal.overflow_add-self-in-Ok
+overflow_add-self-in-Ok c =
     let h = c.in-Some.ensures.2 in
     let r = ap length c.rest.ensures in
     omega (arith, length-drop c.args.self.now.start c.args.self.now.text.now)
@@ -45,7 +45,7 @@ returns-in-Ok c =
       after = λ i. record {
         text = s.text.now;
         start = s.start + (length (is i) + 1);
-        number = c.saturating-add-self.ensures i;
+        number = c.saturating_add-self.ensures i;
       };
       kept = (read_ok w text (content c.in-Ok.made) (sym told)).kept;
       bound = tt;

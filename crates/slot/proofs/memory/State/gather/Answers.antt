@@ -26,27 +26,27 @@ card_short s len e limits = omega (arith, length_fits (first_heading s.phase) li
 
 pub loop-k-init : goal.loop-k-init
 loop-k-init c =
-    out_start c.args.t (holding c.args.self.now).cards c.card-length-length.result c.args.numbers.now c.args.data.now
+    out_start c.args.t (holding c.args.self.now).cards c.card_length-length.result c.args.numbers.now c.args.data.now
 
 pub bounds-numbers-found : goal.bounds-numbers-found
 bounds-numbers-found c =
     omega (arith, c.loop-k.invariant.many, far_most c.args.t (holding c.args.self.now).cards c.loop-k.k)
 
-pub overflow-mul-found : goal.overflow-mul-found
-overflow-mul-found c =
-    let short = card_short c.args.self.now c.card-length-length.result c.card-length-length.ensures c.requires.limits in
+pub overflow_mul-found : goal.overflow_mul-found
+overflow_mul-found c =
+    let short = card_short c.args.self.now c.card_length-length.result c.card_length-length.ensures c.requires.limits in
     omega (arith, out_room _ _ _ _ _ _ _ c.loop-k.invariant c.loop-k-test.true short)
 
 pub slice-bounds-copy-end : goal.slice-bounds-copy-end
 slice-bounds-copy-end c =
-    omega (arith, card_short c.args.self.now c.card-length-length.result c.card-length-length.ensures c.requires.limits)
+    omega (arith, card_short c.args.self.now c.card_length-length.result c.card_length-length.ensures c.requires.limits)
 
 pub copy-requires : goal.copy-requires
 copy-requires c =
     let s = c.args.self.now in
     let k = c.loop-k.k in
-    let len = c.card-length-length.result in
-    let short = card_short s len c.card-length-length.ensures c.requires.limits in
+    let len = c.card_length-length.result in
+    let short = card_short s len c.card_length-length.ensures c.requires.limits in
     omega
     (arith, out_room _ _ _ _ _ _ _ c.loop-k.invariant c.loop-k-test.true short, part_length s k len c.requires.long c.loop-k-test.true short)
 
@@ -56,18 +56,18 @@ loop-k-preserved c =
     let cards = (holding s).cards in
     let t = c.args.t in
     let k = c.loop-k.k in
-    let len = c.card-length-length.result in
+    let len = c.card_length-length.result in
     let found = c.loop-k.found in
     let numbers = c.loop-k.numbers in
     let rest = c.loop-k.data in
     let lt : k < 8 = c.loop-k-test.true in
     let below : k < length cards = omega (arith, cards_length s) in
-    let short = card_short s len c.card-length-length.ensures c.requires.limits in
+    let short = card_short s len c.card_length-length.ensures c.requires.limits in
     let out = c.loop-k.invariant in
     elim c.if-self-k.branch [
       | then-self-k+then-found-t w ↦
           let ns = take ((70 * k + len) - 70 * k) (drop (70 * k) s.memory) in
-          let here = held-numbers s k lt w.if-self-k.true ∙ ap Some (sym (card_part s k len c.card-length-length.ensures)) in
+          let here = held-numbers s k lt w.if-self-k.true ∙ ap Some (sym (card_part s k len c.card_length-length.ensures)) in
           let long = part_length s k len c.requires.long lt short in
           let fits = out_room t cards len k found numbers rest out lt short in
           let place : found < length numbers = omega (arith, out.many, far_most t cards k) in
@@ -88,6 +88,6 @@ pub returns : goal.returns
 returns c =
     let s = c.args.self.now in
     let cards = (holding s).cards in
-    let len = c.card-length-length.result in
+    let len = c.card_length-length.result in
     let o = out_all c.args.t cards len c.loop-k.k c.loop-k.found c.loop-k.numbers c.loop-k.data c.loop-k.invariant (omega (arith, cards_length s)) in
-    record { counted = o.0; copied = ap (λ n. take (length (lowest c.args.t cards) * n) c.loop-k.data) (sym c.card-length-length.ensures) ∙ o.1 }
+    record { counted = o.0; copied = ap (λ n. take (length (lowest c.args.t cards) * n) c.loop-k.data) (sym c.card_length-length.ensures) ∙ o.1 }

@@ -15,12 +15,12 @@ returns-in-Some g c =
     (fault_refused g.F.Field.ops (plan_of a.t a.n a.rows.now) (holding a.self.now) (listing c.in-Some.refusal)
     (sym c.in-Some.ensures))
 
-pub returns-then-is-other-plan : goal.returns-then-is-other-plan
-returns-then-is-other-plan g c =
+pub returns-then-is_other_plan : goal.returns-then-is_other_plan
+returns-then-is_other_plan g c =
     let a = c.args in
     sym
     (other_refused g.F.Field.ops (plan_of a.t a.n a.rows.now) (holding a.self.now) (sym c.in-default.ensures)
-    (sym (c.if-is-other-plan.ensures a.rows.now)))
+    (sym (c.if-is_other_plan.ensures a.rows.now)))
 
 pub returns-then-held-t : goal.returns-then-held-t
 returns-then-held-t g c =
@@ -29,7 +29,7 @@ returns-then-held-t g c =
     let many = count_cards s.held s.memory (card_length (first_heading s.phase)) c.requires in
     sym
     (few_refused g.F.Field.ops (plan_of a.t a.n a.rows.now) (holding s) (sym c.in-default.ensures)
-    (sym (c.if-is-other-plan.ensures a.rows.now)) (omega (arith, many, c.count-held.ensures, c.if-held-t.true))
+    (sym (c.if-is_other_plan.ensures a.rows.now)) (omega (arith, many, c.count-held.ensures, c.if-held-t.true))
     ∙ ap {A = ℕ} (λ n. Some (0x54, n)) (many ∙ sym c.count-held.ensures))
 
 pub returns : goal.returns
@@ -39,4 +39,4 @@ returns g c =
     let many = count_cards s.held s.memory (card_length (first_heading s.phase)) c.requires in
     sym
     (nothing_refused g.F.Field.ops (plan_of a.t a.n a.rows.now) (holding s) (sym c.in-default.ensures)
-    (sym (c.if-is-other-plan.ensures a.rows.now)) (omega (arith, many, c.count-held.ensures, c.if-held-t.false)))
+    (sym (c.if-is_other_plan.ensures a.rows.now)) (omega (arith, many, c.count-held.ensures, c.if-held-t.false)))

@@ -8,8 +8,8 @@ use Rattle.slot.proofs.Putting.{Sound}
 use Rattle.slot.proofs.Unlocking.{fair, fitting, held-room, unlocked_open}
 use Rattle.slot.proofs.slot.Slot.open_lowest.Goals as goal
 
-pub overflow-mul-length : goal.overflow-mul-length
-overflow-mul-length g c =
+pub overflow_mul-length : goal.overflow_mul-length
+overflow_mul-length g c =
     let s = holding c.args.self.now.state in
     let o = g.F.Field.ops in
     let p : Plan = g.P.Checked.plan c.args.plan.now in

@@ -28,7 +28,7 @@ invariant-of-self g c =
     let j = c.args.number in
     let sound : Sound v.state = record { long = v.long; eight = v.eight; limits = v.limits; phased = v.phased; below = v.below } in
     let is : get_or v.state.held j false ≡ true = sym (held_flag v.state j v.eight) ∙ sym c.if-not-holds.ensures in
-    let s = subst Sound (sym c.take-out.ensures) (taken_sound v.state sound j is) in
+    let s = subst Sound (sym c.take_out.ensures) (taken_sound v.state sound j is) in
     (s.long, (s.eight, (s.limits, (s.phased, (s.below, tt)))))
 
 pub returns : goal.returns
@@ -39,10 +39,10 @@ returns g c =
     let sound : Sound s = record { long = v.long; eight = v.eight; limits = v.limits; phased = v.phased; below = v.below } in
     let on : true ≡ is_some (held_at (holding s) j) = c.if-not-holds.ensures in
     let is : get_or s.held j false ≡ true = sym (held_flag s j v.eight) ∙ sym on in
-    let holds = ap holding c.take-out.ensures ∙ taken_holding s sound j is in
+    let holds = ap holding c.take_out.ensures ∙ taken_holding s sound j is in
     record {
       refusal = ap (λ b. cond (not b) (Some (NotHeld j)) None) on;
       holds = holds ∙ ap (λ b. cond b (pulled (holding s) j) (holding s)) on;
-      memory = c.take-out.ensures ∙ ap (λ b. cond b (taken s j) s) on;
+      memory = c.take_out.ensures ∙ ap (λ b. cond b (taken s j) s) on;
       codes = λ coded. subst (Coded g.F.Field.ops) (sym holds) (coded-pulled g.F.Field.ops (holding s) j coded);
     }

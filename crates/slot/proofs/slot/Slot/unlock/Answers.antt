@@ -27,8 +27,8 @@ returns-in-Some g c =
     (unlocked_refusal o p s (fair v.state sound) key key size refusal found refl) in
     record { answer = q.answer; only = q.only; deals = q.deals; zeros = c.leave.ensures; codes = q.codes }
 
-pub open-lowest-requires : goal.open-lowest-requires
-open-lowest-requires g c =
+pub open_lowest-requires : goal.open_lowest-requires
+open_lowest-requires g c =
     let s = holding c.args.self.now.state in
     let o = g.F.Field.ops in
     let p : Plan = g.P.Checked.plan c.args.plan.now in
@@ -42,5 +42,5 @@ returns g c =
     let sound : Sound v.state = record { long = v.long; eight = v.eight; limits = v.limits; phased = v.phased; below = v.below } in
     let q =
     promised g.met.F.Field.lawful (g.P.Checked.plan c.args.plan.now) (holding v.state) (fair v.state sound) c.args.key.now
-    c.open-lowest.new.key (length c.args.workspace.now) c.open-lowest.result c.open-lowest.ensures.answer in
-    record { answer = q.answer; only = q.only; deals = q.deals; zeros = c.open-lowest.ensures.zeros; codes = q.codes }
+    c.open_lowest.new.key (length c.args.workspace.now) c.open_lowest.result c.open_lowest.ensures.answer in
+    record { answer = q.answer; only = q.only; deals = q.deals; zeros = c.open_lowest.ensures.zeros; codes = q.codes }
