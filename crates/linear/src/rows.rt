@@ -67,8 +67,8 @@ pub(crate) fn find_pivot(m: &[u8], rows: usize, width: usize, k: usize) -> Optio
 // Makes column `k` a unit column by a pivot from row `k` on; without one it answers false and changes nothing. The
 // columns before `k` are done, and none of the work goes into them.
 pub(crate) fn reduce_column<F: Field>(m: &mut [u8], rows: usize, width: usize, k: usize) -> bool
-    requires m_len { (length m.old ≡ rows * width) × ((k < rows) × (k < width)) }
-    requires by_index { (i : ℕ) → slice_index m.old i < F.Field.ops.size }
+    requires shape { (length m.old ≡ rows * width) × ((k < rows) × (k < width)) }
+    requires codes { (i : ℕ) → slice_index m.old i < F.Field.ops.size }
     ensures stepped { result ≡ true → Stepped F.Field.ops rows width k m.old m.new }
     ensures stopped { result ≡ false → Pivotless rows width k m.old × (m.new ≡ m.old) }
 {

@@ -22,7 +22,7 @@ impl fmt::Display for HexByte {
 
 // Writes bytes, one after the other.
 pub(crate) fn put_bytes<W: fmt::Write>(f: &mut fmt::Formatter<W>, bytes: &[u8]) -> fmt::Result
-    ensures { WritesOnOk write_str_gives f.old result (hex bytes.now) f.new }
+    ensures { WritesOnOk W.write_str_gives f.old result (hex bytes.now) f.new }
 {
     for b in bytes {
         f.write_fmt(HexByte(*b))?;
@@ -36,7 +36,7 @@ pub(crate) fn put_number<W: fmt::Write>(
     width: u8,
     value: u32,
 ) -> fmt::Result
-    ensures { WritesOnOk write_str_gives f.old result (hex (wide width value)) f.new }
+    ensures { WritesOnOk W.write_str_gives f.old result (hex (wide width value)) f.new }
 {
     if width == 0 {
         return Ok(());

@@ -11,7 +11,7 @@ use std::fmt;
 // Writes one field of each width.
 fn put_fields<W: fmt::Write>(f: &mut fmt::Formatter<W>, sizes: &[u8], values: &[u32]) -> fmt::Result
     requires { length values.now ≡ length sizes.now }
-    ensures { WritesOnOk write_str_gives f.old result (fields_text sizes.now values.now) f.new }
+    ensures { WritesOnOk W.write_str_gives f.old result (fields_text sizes.now values.now) f.new }
 {
     for i in 0..sizes.len() {
         f.write_char(' ')?;
@@ -22,7 +22,7 @@ fn put_fields<W: fmt::Write>(f: &mut fmt::Formatter<W>, sizes: &[u8], values: &[
 
 // Writes the data of a kind that has any.
 fn put_data<W: fmt::Write>(f: &mut fmt::Formatter<W>, kind: Kind, numbers: &[u8]) -> fmt::Result
-    ensures { WritesOnOk write_str_gives f.old result (data_text kind numbers.now) f.new }
+    ensures { WritesOnOk W.write_str_gives f.old result (data_text kind numbers.now) f.new }
 {
     if !kind.has_data() {
         return Ok(());
@@ -39,7 +39,7 @@ pub(crate) fn put_line<W: fmt::Write>(
     numbers: &[u8],
 ) -> fmt::Result
     requires { length values.now ≡ length (widths kind) }
-    ensures { WritesOnOk write_str_gives f.old result (written (record { kind = kind; fields = values.now; numbers = numbers.now })) f.new }
+    ensures { WritesOnOk W.write_str_gives f.old result (written (record { kind = kind; fields = values.now; numbers = numbers.now })) f.new }
 {
     f.write_fmt(HexByte(kind.number()))?;
     put_fields(f, kind.widths(), values)?;

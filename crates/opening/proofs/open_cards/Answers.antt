@@ -38,7 +38,7 @@ settle-requires g c =
     let t = a.t in
     let L = a.key_length in
     let p : Plan = record { t = a.t; n = a.n; rows = a.rows.now } in
-    let f = faultless g.F.Field.ops p a.cards.now a.data.now L (length a.key.now) (length a.workspace.now) (sym c.in-default.ensures) in
+    let f = faultless g.F.Field.ops p a.cards.now a.data.now L (length a.key.now) (length a.workspace.now) (sym c.in_default.ensures) in
     let same = c.lanes.ensures in
     let least : 2 ≤ t = f.sound.least in
     let eight : t ≤ 8 = omega (arith, f.sound.ordered, f.sound.most) in
@@ -65,11 +65,11 @@ pub returns : goal.returns
 returns g c =
     let a = c.args in
     let p : Plan = record { t = a.t; n = a.n; rows = a.rows.now } in
-    let f = faultless g.F.Field.ops p a.cards.now a.data.now a.key_length (length a.key.now) (length a.workspace.now) (sym c.in-default.ensures) in
+    let f = faultless g.F.Field.ops p a.cards.now a.data.now a.key_length (length a.key.now) (length a.workspace.now) (sym c.in_default.ensures) in
     record {
       answer =
           answered_settled (Unit {0}) g.F.Field.ops p a.cards.now a.data.now a.key_length a.key.now c.settle.new.key
-          (length a.workspace.now) c.settle.result c.in-default.ensures (omega arith)
+          (length a.workspace.now) c.settle.result c.in_default.ensures (omega arith)
           (⊎_elim inl
           (λ opened.
           inr

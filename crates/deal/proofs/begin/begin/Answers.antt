@@ -23,7 +23,7 @@ invariant-of-result g c =
     let t = c.threshold-t.result in
     let n = c.cards-n.result in
     let p : Plan = record { t = t; n = n; rows = c.rows.result.now } in
-    let none : foremost (begin_rules o p L s) ≡ None = sym c.begin_fault.ensures ∙ ap listed c.in-default.is in
+    let none : foremost (begin_rules o p L s) ≡ None = sym c.begin_fault.ensures ∙ ap listed c.in_default.is in
     let limits = begin_limits o p L s (clear-table (begin_rules o p L s) none) in
     let outs = fresh_none is_out refl n in
     let writes = fresh_none is_written refl n in (
@@ -50,7 +50,7 @@ returns g c =
     let p : Plan = record { t = t; n = n; rows = c.rows.result.now } in
     let same : p ≡ vetted_plan c.args.plan.now =
     λ i. record { t = c.threshold-t.ensures i; n = c.cards-n.ensures i; rows = c.rows.ensures i } in
-    let none : foremost (begin_rules o p L s) ≡ None = sym c.begin_fault.ensures ∙ ap listed c.in-default.is in
+    let none : foremost (begin_rules o p L s) ≡ None = sym c.begin_fault.ensures ∙ ap listed c.in_default.is in
     let limits = begin_limits o p L s (clear-table (begin_rules o p L s) none) in
     let some : 0 < o.size = omega (arith, g.met.F.Field.lawful.size_least) in
     record {

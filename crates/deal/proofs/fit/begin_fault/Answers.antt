@@ -14,7 +14,7 @@ overflow_cast-result g c =
     let store = c.args.store.now in
     let plan : Plan = record { t = t; n = c.args.n; rows = c.args.rows.now } in
     let sound : Sound g.F.Field.ops plan =
-    sound_plan g.F.Field.ops plan (clear-table (faults g.F.Field.ops plan) (sym c.plan_fault.ensures ∙ ap listed c.in-default.is)) in
+    sound_plan g.F.Field.ops plan (clear-table (faults g.F.Field.ops plan) (sym c.plan_fault.ensures ∙ ap listed c.in_default.is)) in
     let found = first_passes (λ k. leb len k && not (eqb (get_or store k 0) 0)) (t * lanes t len) c.in-Some-first_stray.index (sym c.in-Some-first_stray.ensures) in
     let small = block_small t len (omega (arith, sound.ordered, sound.most)) (omega arith) in
     omega (arith, found.0, small)

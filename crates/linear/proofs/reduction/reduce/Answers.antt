@@ -18,7 +18,10 @@ loop-k-init g c =
 pub reduce_column-requires : goal.reduce_column-requires
 reduce_column-requires g c =
     let m = c.loop-k.invariant.0 in
-    ((m.size, (c.loop-k-test.true, omega (arith, m.square))), matrix_code g.met.F.Field.lawful c.args.rows c.args.width c.loop-k.m m)
+    record {
+      shape = (m.size, (c.loop-k-test.true, omega (arith, m.square)));
+      codes = matrix_code g.met.F.Field.lawful c.args.rows c.args.width c.loop-k.m m;
+    }
 
 pub returns-then-not-reduce_column : goal.returns-then-not-reduce_column
 returns-then-not-reduce_column g c =

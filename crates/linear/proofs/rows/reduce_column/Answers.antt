@@ -11,11 +11,11 @@ bounds-m-place g c =
     let found = c.in-Some.ensures in
     omega (arith, found.2, row_within c.args.width c.args.rows c.in-Some.row found.1)
 
-pub returns-in-default-reciprocal : goal.returns-in-default-reciprocal
-returns-in-default-reciprocal g c =
+pub returns-in_default-reciprocal : goal.returns-in_default-reciprocal
+returns-in_default-reciprocal g c =
     let found = c.in-Some.ensures in
-    let w = inverse_found g.met.F.Field.lawful _ (c.requires.1 c.in-Some.place) found.3 in
-    absurd (c.in-default-reciprocal.not-Some w.0 (c.reciprocal.ensures ∙ w.1))
+    let w = inverse_found g.met.F.Field.lawful _ (c.requires.codes c.in-Some.place) found.3 in
+    absurd (c.in_default-reciprocal.not-Some w.0 (c.reciprocal.ensures ∙ w.1))
 
 pub swap_rows-requires : goal.swap_rows-requires
 swap_rows-requires g c =

@@ -16,7 +16,7 @@ loop-b-preserved g c p =
     let bs = c.args.bytes.now in
     let i = c.loop-b.b-index in
     let x = c.loop-b.invariant p in
-    let y = c.in-ok-write_fmt.ensures.writes x.plain refl in
+    let y = c.in_ok-write_fmt.ensures.writes x.plain refl in
     let e = ap hex (take_more bs i 0 c.loop-b-test.true) ∙ hex-append (take i bs) (get_or bs i 0 ∷ []) in
     has_written_of_eq g.W.Write.write_str_gives _ _ _ _ (sym e) (has_written_append g.W.Write.write_str_gives _ _ _ _ _ x y)
 

@@ -9,7 +9,7 @@ use Rattle.lines.proofs.write.put_data.Goals as goal
 pub returns : goal.returns
 unfolding encode
 returns g c p ok =
-    let x = c.in-ok-write_char.ensures.writes p refl in
+    let x = c.in_ok-write_char.ensures.writes p refl in
     let y = c.put_bytes.ensures x.plain ok in
     let e = ap (λ b. cond b (space ∷ hex c.args.numbers.now) []) c.if-not-has_data.ensures in
     has_written_of_eq g.W.Write.write_str_gives _ _ _ _ e (has_written_append g.W.Write.write_str_gives _ _ _ _ _ x y)

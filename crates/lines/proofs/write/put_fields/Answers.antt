@@ -16,8 +16,8 @@ pub loop-i-preserved : goal.loop-i-preserved
 unfolding encode
 loop-i-preserved g c p =
     let x = c.loop-i.invariant p in
-    let y = c.in-ok-write_char.ensures.writes x.plain refl in
-    let z = c.in-ok-put_number.ensures y.plain refl in
+    let y = c.in_ok-write_char.ensures.writes x.plain refl in
+    let z = c.in_ok-put_number.ensures y.plain refl in
     let e = fields_text_more c.args.sizes.now c.args.values.now c.loop-i.i c.loop-i-test.true c.requires in
     has_written_of_eq g.W.Write.write_str_gives _ _ _ _ (sym e) (has_written_append g.W.Write.write_str_gives _ _ _ _ _ x (has_written_append g.W.Write.write_str_gives _ _ _ _ _ y z))
 

@@ -14,9 +14,9 @@ returns g c p ok =
     let k = c.args.kind in
     let vs = c.args.values.now in
     let close = data_text k c.args.numbers.now ++ (newline ∷ []) in
-    let x = c.in-ok-write_fmt.ensures.writes p refl in
-    let y = c.in-ok-put_fields.ensures x.plain refl in
-    let z = c.in-ok-put_data.ensures y.plain refl in
+    let x = c.in_ok-write_fmt.ensures.writes p refl in
+    let y = c.in_ok-put_fields.ensures x.plain refl in
+    let z = c.in_ok-put_data.ensures y.plain refl in
     let w = c.write_char.ensures.writes z.plain ok in
     let e : hex (c.number.result ∷ []) ++ (fields_text c.widths.result.now vs ++ close) ≡ hex (kind_number k ∷ []) ++ (fields_text (widths k) vs ++ close) =
     λ j. hex (c.number.ensures j ∷ []) ++ (fields_text (c.widths.ensures j) vs ++ close) in

@@ -29,11 +29,11 @@ returns-in-NoPivot g c =
           _ ((subst (λ r. Reduced g.F.Field.ops q.t (q.t + q.lanes) s c.reduce.new.m (Some r)) c.in-NoPivot.is c.in-Some.ensures.reduced).2);
     }
 
-pub returns-in-default : goal.returns-in-default
-returns-in-default g c =
+pub returns-in_default : goal.returns-in_default
+returns-in_default g c =
     let q = c.args.quorum.now in
     let s = c.lay_system.new.matrix in
     let long : length s ≡ q.t * (q.t + q.lanes) = omega arith in
     absurd
-    (c.in-default.ensures.reduced.0
+    (c.in_default.ensures.reduced.0
     (laid_matrix g.met.F.Field.lawful q c.requires.fits c.args.i s long (λ y l. c.lay_system.ensures y (omega arith))))

@@ -25,7 +25,7 @@ returns-in-Some-cards_fault g c =
     let p : Plan = record { t = a.t; n = a.n; rows = a.rows.now } in
     let rest = data_table g.F.Field.ops a.t a.key_length a.cards.now a.data.now ++ last in
     sym
-    (foremost_next (faults g.F.Field.ops p) (cards_table a.t a.n a.cards.now ++ rest) (sym c.in-default.ensures)
+    (foremost_next (faults g.F.Field.ops p) (cards_table a.t a.n a.cards.now ++ rest) (sym c.in_default.ensures)
     ∙ foremost-kept (cards_table a.t a.n a.cards.now) rest (listing c.in-Some-cards_fault.refusal)
     (sym c.in-Some-cards_fault.ensures))
 
@@ -37,6 +37,6 @@ returns-in-Some-data_fault g c =
     let measure = data_table g.F.Field.ops a.t a.key_length a.cards.now a.data.now in
     sym
     (foremost_next (faults g.F.Field.ops p) (cards_table a.t a.n a.cards.now ++ (measure ++ last))
-    (sym c.in-default.ensures)
-    ∙ foremost_next (cards_table a.t a.n a.cards.now) (measure ++ last) (sym c.in-default-cards_fault.ensures)
+    (sym c.in_default.ensures)
+    ∙ foremost_next (cards_table a.t a.n a.cards.now) (measure ++ last) (sym c.in_default-cards_fault.ensures)
     ∙ foremost-kept measure last (listing c.in-Some-data_fault.refusal) (sym c.in-Some-data_fault.ensures))

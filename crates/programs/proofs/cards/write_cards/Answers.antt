@@ -10,7 +10,7 @@ loop-j-preserved g c =
     let r = c.put_card.ensures in (
       cards_more g.F.Field.ops (vetted_plan c.args.plan.now) c.args.mark.number c.args.len c.args.store.now c.loop-j.j
           (string_bytes c.loop-j.text) (string_bytes c.put_line.new.text) c.mark.result c.threshold-t.result c.cards-n.result c.put_card.new.place
-          c.loop-j.invariant.0 c.mark.ensures c.threshold-t.ensures c.cards-n.ensures r.«data» c.in-ok-put_line.ensures,
+          c.loop-j.invariant.0 c.mark.ensures c.threshold-t.ensures c.cards-n.ensures r.«data» c.in_ok-put_line.ensures,
       r.ready,
       c.put_card.auto.place ∙ c.loop-j.invariant.2,
     )

@@ -15,16 +15,16 @@ use Rattle.programs.proofs.Chain.{in_field, plan_lines_shorter, tells_more}
 use Rattle.programs.proofs.Heads.{stops_more}
 use Rattle.programs.proofs.dealing.deal_text.Goals as goal
 
-pub returns-in-err-plan : goal.returns-in-err-plan
-returns-in-err-plan c =
+pub returns-in_err-plan : goal.returns-in_err-plan
+returns-in_err-plan c =
     let p = err_from_is_err_and c.from-residual.result c.from-residual.ensures.1 in
     rw (p.1, p.2)
-    (stops_more _ (λ a. Unplanned c.args.text.now a) (λ a. Dealing c.args.text.now a) (λ a u. unplanned u) c.in-err-plan.ensures)
+    (stops_more _ (λ a. Unplanned c.args.text.now a) (λ a. Dealing c.args.text.now a) (λ a u. unplanned u) c.in_err-plan.ensures)
 
 pub deal_plan-requires : goal.deal_plan-requires
 deal_plan-requires c =
-    let x = c.in-ok-plan.field-0 in
-    let lines = c.in-ok-plan.ensures in
+    let x = c.in_ok-plan.field-0 in
+    let lines = c.in_ok-plan.ensures in
     record {
       limits = within-parts x.plan.t x.plan.n lines.head.limits;
       short = plan_lines_shorter x.plan.known x.plan.t x.plan.n (vec_items x.rows) c.args.text.now (left (standing x.reader)) lines;
@@ -32,19 +32,19 @@ deal_plan-requires c =
 
 pub returns-in-Bytes : goal.returns-in-Bytes
 returns-in-Bytes c =
-    let x = c.in-ok-plan.field-0 in
+    let x = c.in_ok-plan.field-0 in
     let rest = left (standing x.reader) in
     let whole = λ (a : Answer). in_field (λ o r. Examined o (plan_of x.plan.t x.plan.n r) (1 + (x.plan.n - x.plan.t)) rest a) x.plan.known Bytes c.deref.result.now
     (vec_items x.rows) c.in-Bytes.is c.deref.ensures.value in
     let all : (a : Answer) → Examined (operations x.plan.known) (plan_of x.plan.t x.plan.n (vec_items x.rows)) (1 + (x.plan.n - x.plan.t)) rest a → Dealing c.args.text.now a =
-    λ a e. planned x.plan.known x.plan.t x.plan.n (vec_items x.rows) rest c.in-ok-plan.ensures e in
+    λ a e. planned x.plan.known x.plan.t x.plan.n (vec_items x.rows) rest c.in_ok-plan.ensures e in
     tells_more c.deal_plan.result _ (λ s. Dealing c.args.text.now (Grants (string_bytes s))) _ (λ a. Dealing c.args.text.now a)
     (λ s e. all (Grants (string_bytes s)) (whole (Grants (string_bytes s)) e)) (λ a e. all a (whole a e)) c.deal_plan.ensures
 
 pub deal_plan-requires-in-Modulo97 : goal.deal_plan-requires-in-Modulo97
 deal_plan-requires-in-Modulo97 c =
-    let x = c.in-ok-plan.field-0 in
-    let lines = c.in-ok-plan.ensures in
+    let x = c.in_ok-plan.field-0 in
+    let lines = c.in_ok-plan.ensures in
     record {
       limits = within-parts x.plan.t x.plan.n lines.head.limits;
       short = plan_lines_shorter x.plan.known x.plan.t x.plan.n (vec_items x.rows) c.args.text.now (left (standing x.reader)) lines;
@@ -52,11 +52,11 @@ deal_plan-requires-in-Modulo97 c =
 
 pub returns : goal.returns
 returns c =
-    let x = c.in-ok-plan.field-0 in
+    let x = c.in_ok-plan.field-0 in
     let rest = left (standing x.reader) in
     let whole = λ (a : Answer). in_field (λ o r. Examined o (plan_of x.plan.t x.plan.n r) (1 + (x.plan.n - x.plan.t)) rest a) x.plan.known Modulo97 c.deref-in-Modulo97.result.now
     (vec_items x.rows) c.in-Modulo97.is c.deref-in-Modulo97.ensures.value in
     let all : (a : Answer) → Examined (operations x.plan.known) (plan_of x.plan.t x.plan.n (vec_items x.rows)) (1 + (x.plan.n - x.plan.t)) rest a → Dealing c.args.text.now a =
-    λ a e. planned x.plan.known x.plan.t x.plan.n (vec_items x.rows) rest c.in-ok-plan.ensures e in
+    λ a e. planned x.plan.known x.plan.t x.plan.n (vec_items x.rows) rest c.in_ok-plan.ensures e in
     tells_more c.deal_plan-in-Modulo97.result _ (λ s. Dealing c.args.text.now (Grants (string_bytes s))) _ (λ a. Dealing c.args.text.now a)
     (λ s e. all (Grants (string_bytes s)) (whole (Grants (string_bytes s)) e)) (λ a e. all a (whole a e)) c.deal_plan-in-Modulo97.ensures

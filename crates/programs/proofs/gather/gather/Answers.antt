@@ -22,8 +22,8 @@ put_in-requires g c =
     let text = left (standing c.loop-k.reader) in
     omega (arith, c.loop-k.invariant.1, ap length c.skip.ensures.value, length-take (length (head text) + 1) text)
 
-pub returns-in-err-put_in : goal.returns-in-err-put_in
-returns-in-err-put_in g c =
+pub returns-in_err-put_in : goal.returns-in_err-put_in
+returns-in_err-put_in g c =
     let p = err_from_is_err_and c.from-residual.result c.from-residual.ensures.1 in
     let o = g.F.Field.ops in
     let s = holding c.loop-k.slot.state in
@@ -33,7 +33,7 @@ returns-in-err-put_in g c =
     (λ a. Ungathered o c.args.t c.args.line text a)
     (λ a r. line_refuses o c.args.t c.args.line text c.loop-k.k c.from.result s (left (standing c.loop-k.reader)) c.skip.result.now
     c.from.ensures c.loop-k.invariant.1 c.loop-k.invariant.0 a c.skip.ensures.value (omega (arith, c.loop-k-test.true)) r)
-    c.in-err-put_in.ensures)
+    c.in_err-put_in.ensures)
 
 pub loop-k-preserved : goal.loop-k-preserved
 loop-k-preserved g c =
@@ -41,7 +41,7 @@ loop-k-preserved g c =
     let on = ap left c.skip.ensures.after ∙ skipped-left (standing c.loop-k.reader) in (
       line_takes g.F.Field.ops c.args.t c.args.line (left (standing c.args.reader.now)) c.loop-k.k c.from.result
           (holding c.loop-k.slot.state) middle c.skip.result.now c.from.ensures c.loop-k.invariant.1 c.loop-k.invariant.0
-          (holding c.put_in.new.slot.state) (left (standing c.skip.new.self)) c.skip.ensures.value on c.in-ok-put_in.ensures,
+          (holding c.put_in.new.slot.state) (left (standing c.skip.new.self)) c.skip.ensures.value on c.in_ok-put_in.ensures,
       omega (arith, c.loop-k.invariant.1, ap length on, length-drop (length (head middle) + 1) middle),
     )
 

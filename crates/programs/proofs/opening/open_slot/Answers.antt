@@ -20,12 +20,12 @@ returns-in-Err g c =
     (take (c.from.result - 0) (drop 0 (replicate {A = ℕ} 64 0))) c.unlock.new.key c.from.result (length (replicate {A = ℕ} 4096 0)) c.from.ensures
     (zeros_part c.from.result c.from.result refl (size_most c.args.slot.now.state c.in-Some.heading c.from.result (sym c.in-Some.ensures) c.from.ensures c.args.slot.now.limits)) (length-replicate {A = ℕ} 4096 0) c.in-Err.refusal c.slot_refused.result c.slot_refused.ensures c.in-Err.ensures.answer
 
-pub returns-in-err-put_line : goal.returns-in-err-put_line
-returns-in-err-put_line g c = let p = err_from_is_err_and c.from-residual.result c.from-residual.ensures.1 in rw (p.1, p.2) tt
+pub returns-in_err-put_line : goal.returns-in_err-put_line
+returns-in_err-put_line g c = let p = err_from_is_err_and c.from-residual.result c.from-residual.ensures.1 in rw (p.1, p.2) tt
 
 pub returns : goal.returns
 returns g c =
     told_key g.F.Field.ops (admitted_plan c.args.plan.now) (holding c.args.slot.now.state) c.in-Some.heading (sym c.in-Some.ensures)
     (take (c.from.result - 0) (drop 0 (replicate {A = ℕ} 64 0))) c.unlock.new.key c.from.result (length (replicate {A = ℕ} 4096 0)) c.from.ensures
-    (zeros_part c.from.result c.from.result refl (size_most c.args.slot.now.state c.in-Some.heading c.from.result (sym c.in-Some.ensures) c.from.ensures c.args.slot.now.limits)) (length-replicate {A = ℕ} 4096 0) c.in-default-unlock.field-0 (string_bytes c.put_line.new.text)
-    (c.in-ok-put_line.ensures ∙ ap (λ l. l ++ written (key_line c.in-Some.heading.mark.number c.unlock.new.key)) c.new-text.ensures.bytes) c.in-default-unlock.ensures.answer
+    (zeros_part c.from.result c.from.result refl (size_most c.args.slot.now.state c.in-Some.heading c.from.result (sym c.in-Some.ensures) c.from.ensures c.args.slot.now.limits)) (length-replicate {A = ℕ} 4096 0) c.in_default-unlock.field-0 (string_bytes c.put_line.new.text)
+    (c.in_ok-put_line.ensures ∙ ap (λ l. l ++ written (key_line c.in-Some.heading.mark.number c.unlock.new.key)) c.new-text.ensures.bytes) c.in_default-unlock.ensures.answer

@@ -23,8 +23,8 @@ returns-in-Err-read_plan c =
     let o = opened_at c.in-Ok.reader c.args.text.now c.in-Ok.ensures in
     no_plan o.1 c.in-Err-read_plan.fault (subst (λ x. NoPlan x c.in-Err-read_plan.fault) o.0 c.in-Err-read_plan.ensures) (ap refusing c.at_line.ensures)
 
-pub returns-in-err-read_block : goal.returns-in-err-read_block
-returns-in-err-read_block c =
+pub returns-in_err-read_block : goal.returns-in_err-read_block
+returns-in_err-read_block c =
     let p = err_from_is_err_and c.from-residual.result c.from-residual.ensures.1 in
     let o = opened_at c.in-Ok.reader c.args.text.now c.in-Ok.ensures in
     let l = c.in-Ok-read_plan.plan in
@@ -32,13 +32,13 @@ returns-in-err-read_block c =
     rw (p.1, p.2)
     (stops_more _ (λ a. (k : ℕ) × (f : Fault) × Broken c.a_row.result (l.n - l.t) k mid f × (a ≡ at_line f (1 + k))) (λ a. Unplanned c.args.text.now a)
     (λ a b. unrowed_by l.known l.t l.n c.args.text.now (left (standing c.in-Ok.reader)) mid c.a_row.result a o.0 o.1 c.in-Ok-read_plan.ensures c.a_row.ensures b)
-    c.in-err-read_block.ensures)
+    c.in_err-read_block.ensures)
 
 pub returns : goal.returns
 returns c =
     let o = opened_at c.in-Ok.reader c.args.text.now c.in-Ok.ensures in
     let l = c.in-Ok-read_plan.plan in
-    let r = c.in-ok-read_block.ensures in
+    let r = c.in_ok-read_block.ensures in
     planned-by l.known l.t l.n c.args.text.now (left (standing c.in-Ok.reader)) (left (standing c.read_plan.new.reader))
     (left (standing c.read_block.new.reader)) (vec_items c.read_block.new.numbers) (vec_items c.new-rows.result) r.0 c.a_row.result
     o.0 o.1 c.in-Ok-read_plan.ensures c.a_row.ensures c.new-rows.ensures.items r.1 r.2

@@ -12,21 +12,21 @@ use Rattle.programs.proofs.plans.vet_plan.Goals as goal
 pub admit_plan-requires : goal.admit_plan-requires
 admit_plan-requires g c = length-replicate {A = ℕ} 4096 0
 
-pub returns-in-err-admitted : goal.returns-in-err-admitted
-returns-in-err-admitted g c =
+pub returns-in_err-admitted : goal.returns-in_err-admitted
+returns-in_err-admitted g c =
     let p = err_from_is_err_and c.from-residual.result c.from-residual.ensures.1 in
     let plan = plan_of c.args.t c.args.n c.args.rows.now in
     rw (p.1, p.2)
-    (stops_more _ (λ a. Unadmitted g.F.Field.ops plan a) (λ a. Unvetted g.F.Field.ops plan a) (λ a u. not_admitted u.0 u.1 u.2) c.in-err-admitted.ensures)
+    (stops_more _ (λ a. Unadmitted g.F.Field.ops plan a) (λ a. Unvetted g.F.Field.ops plan a) (λ a u. not_admitted u.0 u.1 u.2) c.in_err-admitted.ensures)
 
 pub returns-in-Ok : goal.returns-in-Ok
 returns-in-Ok g c =
-    let a = c.in-ok-admitted.ensures in
+    let a = c.in_ok-admitted.ensures in
     let v = c.in-Ok.ensures in
     (passed_by g.F.Field.ops (plan_of c.args.t c.args.n c.args.rows.now) _ a.1 a.0 _ v.grants, v.plan ∙ a.1)
 
 pub returns-in-Err : goal.returns-in-Err
 returns-in-Err g c =
-    let a = c.in-ok-admitted.ensures in
+    let a = c.in_ok-admitted.ensures in
     unvetted_by g.F.Field.ops (plan_of c.args.t c.args.n c.args.rows.now) _ a.1 a.0
     _ c.in-Err.refusal.refusal c.refused.result (c.admit_plan.auto.workspace ∙ length-replicate {A = ℕ} 4096 0) c.in-Err.ensures.answer c.refused.ensures

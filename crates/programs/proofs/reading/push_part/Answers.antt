@@ -12,7 +12,7 @@ loop-k-preserved c =
     let was = vec_items c.args.numbers.now in
     let x = c.number.result in
     let more = take_more bs k 0 (omega (arith, c.count-k-end.ensures)) in
-    c.in-ok-push.ensures.items
+    c.in_ok-push.ensures.items
     ∙ ap (λ v. v ++ (x ∷ [])) c.loop-k.invariant
     ∙ append_assoc was (take k bs) (x ∷ [])
     ∙ ap (λ y. was ++ (take k bs ++ (y ∷ []))) c.number.ensures

@@ -15,7 +15,7 @@ loop-i-preserved c =
     let e = vec_items c.args.numbers.now in
     let n = c.loop-i.-i - c.len-size.result in
     let z : n + 1 ≡ (c.loop-i.-i + 1) - c.len-size.result = omega arith in
-    c.in-ok-push.ensures.items
+    c.in_ok-push.ensures.items
     ∙ ap (λ v. v ++ (0 ∷ [])) c.loop-i.invariant
     ∙ append_assoc e (replicate n 0) (0 ∷ [])
     ∙ ap (λ l. e ++ l) (replicate_more n 0)

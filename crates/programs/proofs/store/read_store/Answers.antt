@@ -33,12 +33,12 @@ read_block-requires c = record {
 }
 
 -- src/store.rt:54:5
-pub returns-in-err-read_block : goal.returns-in-err-read_block
-returns-in-err-read_block c =
-    let p = err_from_is_err_and c.from-residual-in-err-read_block.result c.from-residual-in-err-read_block.ensures.1 in
+pub returns-in_err-read_block : goal.returns-in_err-read_block
+returns-in_err-read_block c =
+    let p = err_from_is_err_and c.from-residual-in_err-read_block.result c.from-residual-in_err-read_block.ensures.1 in
     let key = spelled c.in-Ok.head.key.digits.now in
     let mid = left (standing c.read_key.new.reader) in
-    let pushed : vec_items c.push_part.new.numbers ≡ key = c.in-ok-push_part.ensures ∙ ap (λ l. l ++ key) c.requires.empty in
+    let pushed : vec_items c.push_part.new.numbers ≡ key = c.in_ok-push_part.ensures ∙ ap (λ l. l ++ key) c.requires.empty in
     let size : c.len-size.result ≡ length key = c.len-size.ensures ∙ c.push_part.new.numbers.ok.0 ∙ ap length pushed in
     rw (p.1, p.2)
     (stops_more _
@@ -46,4 +46,4 @@ returns-in-err-read_block c =
     (λ a. Unkeyed c.args.t c.args.line (left (standing c.args.reader.now)) a)
     (λ a b. no_dummy c.in-Ok.head.mark.number key mid c.in-Ok.ensures b.0 b.1
     (subst (λ w. Broken w (c.args.t - 1) b.0 mid b.1) (c.a_dummy.ensures ∙ ap (λ s. wanted.Dummy c.args.t s) size) b.2) b.3)
-    c.in-err-read_block.ensures)
+    c.in_err-read_block.ensures)

@@ -7,7 +7,7 @@ use Rattle.slot.proofs.card.read_card.Goals as goal
 
 pub returns : goal.returns
 returns c =
-    let a = c.in-ok-line.ensures in
+    let a = c.in_ok-line.ensures in
     let i = c.in-Card in
     let mark = c.args.mark in
     let k = subst (λ l. Kept (wanted.Card mark) (content l)) i.is a.kept in

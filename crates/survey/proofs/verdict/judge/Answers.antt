@@ -33,7 +33,7 @@ returns-in-Err-admit g c =
     let t = c.args.t in
     let n = c.args.n in
     let inside = sym c.if-not-within_limits.ensures in
-    let same = c.new.ensures ∙ ap (plan_of t n) c.in-default.ensures.filled in
+    let same = c.new.ensures ∙ ap (plan_of t n) c.in_default.ensures.filled in
     let judged =
     shut laws t n inside _ same _ c.in-Err-admit.shut.refusal c.carried.result c.carried.ensures (length-replicate {A = ℕ} 4096 0)
     c.in-Err-admit.ensures.answer
@@ -46,7 +46,7 @@ returns-in-Ok-vet g c =
     let t = c.args.t in
     let n = c.args.n in
     let inside = sym c.if-not-within_limits.ensures in
-    let same = c.new.ensures ∙ ap (plan_of t n) c.in-default.ensures.filled in
+    let same = c.new.ensures ∙ ap (plan_of t n) c.in_default.ensures.filled in
     let opens = opening laws t n inside _ same _ c.in-Ok.ensures.grants in
     let judged = vetted laws t n inside _ (c.in-Ok.ensures.plan ∙ same) _ opens c.in-Ok-vet.ensures.grants in
     record { judged = judged; only = only_verdict laws t n Vetted judged }
@@ -57,7 +57,7 @@ returns-in-Err-vet g c =
     let t = c.args.t in
     let n = c.args.n in
     let inside = sym c.if-not-within_limits.ensures in
-    let same = c.new.ensures ∙ ap (plan_of t n) c.in-default.ensures.filled in
+    let same = c.new.ensures ∙ ap (plan_of t n) c.in_default.ensures.filled in
     let opens = opening laws t n inside _ same _ c.in-Ok.ensures.grants in
     let judged =
     telling laws t n inside _ (c.in-Ok.ensures.plan ∙ same) _ opens c.in-Err-vet.telling.refusal c.carried-in-Err-vet.result

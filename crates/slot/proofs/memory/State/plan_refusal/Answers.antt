@@ -19,7 +19,7 @@ pub returns-then-is_other_plan : goal.returns-then-is_other_plan
 returns-then-is_other_plan g c =
     let a = c.args in
     sym
-    (other_refused g.F.Field.ops (plan_of a.t a.n a.rows.now) (holding a.self.now) (sym c.in-default.ensures)
+    (other_refused g.F.Field.ops (plan_of a.t a.n a.rows.now) (holding a.self.now) (sym c.in_default.ensures)
     (sym (c.if-is_other_plan.ensures a.rows.now)))
 
 pub returns-then-held-t : goal.returns-then-held-t
@@ -28,7 +28,7 @@ returns-then-held-t g c =
     let s = a.self.now in
     let many = count_cards s.held s.memory (card_length (first_heading s.phase)) c.requires in
     sym
-    (few_refused g.F.Field.ops (plan_of a.t a.n a.rows.now) (holding s) (sym c.in-default.ensures)
+    (few_refused g.F.Field.ops (plan_of a.t a.n a.rows.now) (holding s) (sym c.in_default.ensures)
     (sym (c.if-is_other_plan.ensures a.rows.now)) (omega (arith, many, c.count-held.ensures, c.if-held-t.true))
     ∙ ap {A = ℕ} (λ n. Some (0x54, n)) (many ∙ sym c.count-held.ensures))
 
@@ -38,5 +38,5 @@ returns g c =
     let s = a.self.now in
     let many = count_cards s.held s.memory (card_length (first_heading s.phase)) c.requires in
     sym
-    (nothing_refused g.F.Field.ops (plan_of a.t a.n a.rows.now) (holding s) (sym c.in-default.ensures)
+    (nothing_refused g.F.Field.ops (plan_of a.t a.n a.rows.now) (holding s) (sym c.in_default.ensures)
     (sym (c.if-is_other_plan.ensures a.rows.now)) (omega (arith, many, c.count-held.ensures, c.if-held-t.false)))

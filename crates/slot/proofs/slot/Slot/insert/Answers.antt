@@ -12,8 +12,8 @@ use Rattle.slot.proofs.slot.Slot.insert.Goals as goal
 
 pub refusal-requires : goal.refusal-requires
 refusal-requires g c =
-    let card = c.in-ok-card.card in
-    let l = c.in-ok-card.ensures.limited in
+    let card = c.in_ok-card.card in
+    let l = c.in_ok-card.ensures.limited in
     record {
       eight = c.args.self.now.eight;
       below = number_below card.heading card.number l.limits l.below;
@@ -22,8 +22,8 @@ refusal-requires g c =
 
 pub put-requires : goal.put-requires
 put-requires g c =
-    let card = c.in-ok-card.card in
-    let l = c.in-ok-card.ensures.limited in
+    let card = c.in_ok-card.card in
+    let l = c.in_ok-card.ensures.limited in
     record {
       long = c.args.self.now.long;
       eight = c.args.self.now.eight;
@@ -34,21 +34,21 @@ put-requires g c =
 pub invariant-of-self : goal.invariant-of-self
 invariant-of-self g c =
     let v = c.args.self.now in
-    let card = c.in-ok-card.card in
-    let l = c.in-ok-card.ensures.limited in
+    let card = c.in_ok-card.card in
+    let l = c.in_ok-card.ensures.limited in
     let sound : Sound v.state = record { long = v.long; eight = v.eight; limits = v.limits; phased = v.phased; below = v.below } in
-    let s = subst Sound (sym c.put.ensures) (card_sound g.F.Field.ops g.F.Field.ops.mark v.state sound card l (sym c.in-default.ensures)) in
+    let s = subst Sound (sym c.put.ensures) (card_sound g.F.Field.ops g.F.Field.ops.mark v.state sound card l (sym c.in_default.ensures)) in
     (s.long, (s.eight, (s.limits, (s.phased, (s.below, tt)))))
 
 pub returns : goal.returns
 returns g c =
     let v = c.args.self.now in
     let o = g.F.Field.ops in
-    let card = c.in-ok-card.card in
+    let card = c.in_ok-card.card in
     let text = c.args.text.now in
-    let a = c.in-ok-card.ensures in
+    let a = c.in_ok-card.ensures in
     let sound : Sound v.state = record { long = v.long; eight = v.eight; limits = v.limits; phased = v.phased; below = v.below } in
-    let none = sym c.in-default.ensures in
+    let none = sym c.in_default.ensures in
     let read : Ok (card_content o.mark card) ≡ card_read o.mark text =
     subst (λ m. Ok (card_content m card) ≡ card_read m text) c.mark.ensures a.told in
     let k = card_content o.mark card in

@@ -32,8 +32,8 @@ slice-bounds-data-end g c =
     omega
     (arith, (held-room o p s c.threshold-t.result c.card_length.result (fitting o p s c.requires) c.args.self.now.limits c.threshold-t.ensures c.card_length.ensures).1)
 
-pub returns-in-err-open : goal.returns-in-err-open
-returns-in-err-open g c =
+pub returns-in_err-open : goal.returns-in_err-open
+returns-in_err-open g c =
     let v = c.args.self.now in
     let s = holding v.state in
     let o = g.F.Field.ops in
@@ -42,7 +42,7 @@ returns-in-err-open g c =
     let key = c.args.key.now in
     let after = c.open.new.key in
     let size = length c.args.workspace.now in
-    let inner = Err c.in-err-open.field-0.0 in
+    let inner = Err c.in_err-open.field-0.0 in
     let up = err_from_is_err_and c.from-residual.result c.from-residual.ensures.1 in
     let is : raised inner ≡ c.from-residual.result = sym (up.1 ∙ ap Err up.2) in
     record {
@@ -50,8 +50,8 @@ returns-in-err-open g c =
           subst (Unlocked o p s key after size) is
           (unlocked_open o p s (fair v.state sound) key after c.threshold-t.result c.card_length.result c.size.result c.gather.new.numbers
           c.gather.new.data size inner (fitting o p s c.requires) c.threshold-t.ensures c.card_length.ensures c.size.ensures
-          c.gather.ensures.counted c.gather.ensures.copied c.in-err-open.ensures.answer);
-      zeros = c.in-err-open.ensures.zeros;
+          c.gather.ensures.counted c.gather.ensures.copied c.in_err-open.ensures.answer);
+      zeros = c.in_err-open.ensures.zeros;
     }
 
 pub returns : goal.returns
@@ -62,11 +62,11 @@ returns g c =
     let p : Plan = g.P.Checked.plan c.args.plan.now in
     let sound : Sound v.state = record { long = v.long; eight = v.eight; limits = v.limits; phased = v.phased; below = v.below } in
     let size = length c.args.workspace.now in
-    let inner = Ok c.in-ok-open.field-0 in
+    let inner = Ok c.in_ok-open.field-0 in
     record {
       answer =
           unlocked_open o p s (fair v.state sound) c.args.key.now c.open.new.key c.threshold-t.result c.card_length.result c.size.result
           c.gather.new.numbers c.gather.new.data size inner (fitting o p s c.requires) c.threshold-t.ensures c.card_length.ensures c.size.ensures
-          c.gather.ensures.counted c.gather.ensures.copied c.in-ok-open.ensures.answer;
-      zeros = c.in-ok-open.ensures.zeros;
+          c.gather.ensures.counted c.gather.ensures.copied c.in_ok-open.ensures.answer;
+      zeros = c.in_ok-open.ensures.zeros;
     }

@@ -34,7 +34,7 @@ open_lowest-requires g c =
     let p : Plan = g.P.Checked.plan c.args.plan.now in
     let same : plan_of c.threshold-t.result c.cards-n.result c.rows.result.now ≡ p =
     λ i. record { t = c.threshold-t.ensures i; n = c.cards-n.ensures i; rows = c.rows.ensures i } in
-    subst (λ q. foremost (plan_table o q s) ≡ None) same (sym c.in-default.ensures)
+    subst (λ q. foremost (plan_table o q s) ≡ None) same (sym c.in_default.ensures)
 
 pub returns : goal.returns
 returns g c =
