@@ -9,12 +9,12 @@ use Rattle.sharing.proofs.Hiding.{hides_exactly}
 use Rattle.sharing.proofs.LaidOut.{hiding_room, rest-kept, hiding_codes, only_zero_laid_out}
 use Rattle.sharing.proofs.decision.group_hides.Goals as goal
 
-pub slice-bounds-matrix-end : goal.slice-bounds-matrix-end
-slice-bounds-matrix-end g c =
+pub slice_bounds-matrix-end : goal.slice_bounds-matrix-end
+slice_bounds-matrix-end g c =
     hiding_room c.requires.sound c.args.workspace.now c.requires.room
 
-pub slice-bounds-matrix-end-2 : goal.slice-bounds-matrix-end-2
-slice-bounds-matrix-end-2 g c =
+pub slice_bounds-matrix-end-2 : goal.slice_bounds-matrix-end-2
+slice_bounds-matrix-end-2 g c =
     sym
     (length-take-le (((c.args.t - 1) * c.args.t) * ((c.args.t - 1) * c.args.t)) c.args.workspace.now
     (hiding_room c.requires.sound c.args.workspace.now c.requires.room))

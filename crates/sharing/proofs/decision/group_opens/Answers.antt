@@ -8,12 +8,12 @@ use Rattle.sharing.proofs.LaidOut.{opening-room, rest-kept}
 use Rattle.sharing.proofs.OneWord.{opens_exactly}
 use Rattle.sharing.proofs.decision.group_opens.Goals as goal
 
-pub slice-bounds-matrix-end : goal.slice-bounds-matrix-end
-slice-bounds-matrix-end g c =
+pub slice_bounds-matrix-end : goal.slice_bounds-matrix-end
+slice_bounds-matrix-end g c =
     opening-room c.requires.sound c.args.workspace.now c.requires.room
 
-pub slice-bounds-matrix-end-2 : goal.slice-bounds-matrix-end-2
-slice-bounds-matrix-end-2 g c =
+pub slice_bounds-matrix-end-2 : goal.slice_bounds-matrix-end-2
+slice_bounds-matrix-end-2 g c =
     sym
     (length-take-le (c.args.t * c.args.t) c.args.workspace.now
     (opening-room c.requires.sound c.args.workspace.now c.requires.room))

@@ -37,8 +37,8 @@ overflow_mul-found c =
     let short = card_short c.args.self.now c.card_length-length.result c.card_length-length.ensures c.requires.limits in
     omega (arith, out_room _ _ _ _ _ _ _ c.loop-k.invariant c.loop-k-test.true short)
 
-pub slice-bounds-copy-end : goal.slice-bounds-copy-end
-slice-bounds-copy-end c =
+pub slice_bounds-copy-end : goal.slice_bounds-copy-end
+slice_bounds-copy-end c =
     omega (arith, card_short c.args.self.now c.card_length-length.result c.card_length-length.ensures c.requires.limits)
 
 pub copy-requires : goal.copy-requires

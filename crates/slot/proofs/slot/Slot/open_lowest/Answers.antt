@@ -16,16 +16,16 @@ overflow_mul-length g c =
     omega
     (arith, (held-room o p s c.threshold-t.result c.card_length.result (fitting o p s c.requires) c.args.self.now.limits c.threshold-t.ensures c.card_length.ensures).1)
 
-pub slice-bounds-cards-end : goal.slice-bounds-cards-end
-slice-bounds-cards-end g c =
+pub slice_bounds-cards-end : goal.slice_bounds-cards-end
+slice_bounds-cards-end g c =
     let s = holding c.args.self.now.state in
     let o = g.F.Field.ops in
     let p : Plan = g.P.Checked.plan c.args.plan.now in
     omega
     (arith, (held-room o p s c.threshold-t.result c.card_length.result (fitting o p s c.requires) c.args.self.now.limits c.threshold-t.ensures c.card_length.ensures).0)
 
-pub slice-bounds-data-end : goal.slice-bounds-data-end
-slice-bounds-data-end g c =
+pub slice_bounds-data-end : goal.slice_bounds-data-end
+slice_bounds-data-end g c =
     let s = holding c.args.self.now.state in
     let o = g.F.Field.ops in
     let p : Plan = g.P.Checked.plan c.args.plan.now in
