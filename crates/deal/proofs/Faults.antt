@@ -5,8 +5,8 @@ use Rattle.field.specs.Codes.{Operations}
 use Rattle.field.specs.Refusals.{Rule, foremost}
 use Rattle.field.proofs.Limits.{passed_over}
 use Rattle.sharing.specs.Scheme.{Plan, Sound}
-use Rattle.check.specs.Faults.{faults}
-use Rattle.check.proofs.Faults.{passed, sound_faultless, faultless_sound}
+use Rattle.plan_check.specs.Faults.{faults}
+use Rattle.plan_check.proofs.Faults.{passed, sound_faultless, faultless_sound}
 
 abbrev pub Clear : List Rule → Type 0
 Clear [] = Unit {0}

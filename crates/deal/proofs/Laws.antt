@@ -6,7 +6,7 @@ use Rattle.field.specs.Rows.{within}
 use Rattle.field.specs.Refusals.{foremost}
 use Rattle.sharing.specs.Scheme.{Plan, Sound, Key, Dummies, Deal, store}
 use Rattle.sharing.specs.Secrecy.{Vets}
-use Rattle.check.specs.Faults.{faults}
+use Rattle.plan_check.specs.Faults.{faults}
 use Rattle.deal.specs.declared.state.Mark.{Mark}
 use Rattle.deal.specs.declared.state.CardState.{CardState}
 use Rattle.deal.specs.declared.state.CardState.TheVariants.{Waiting}

@@ -6,9 +6,9 @@ use Rattle.field.specs.Codes.{Operations}
 use Rattle.field.specs.Inverse.{first_none}
 use Rattle.sharing.specs.Scheme.{Plan, Sound, Codes, Key, Dummies, Deal, lanes, padded, store}
 use Rattle.sharing.proofs.Stores.{lanes_enough, length-padded, codes_all, codes_append, codes_padded}
-use Rattle.check.specs.Faults.{first_no_code}
-use Rattle.check.proofs.Faults.{all_codes, none_missing, none_no_code}
-use Rattle.check.proofs.First.{first_nothing}
+use Rattle.plan_check.specs.Faults.{first_no_code}
+use Rattle.plan_check.proofs.Faults.{all_codes, none_missing, none_no_code}
+use Rattle.plan_check.proofs.First.{first_nothing}
 use Rattle.deal.specs.Faults.{store_rules, stray_padding, begin_rules}
 use Rattle.deal.proofs.Faults.{Clear, sound_plan, faultless}
 

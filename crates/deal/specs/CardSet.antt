@@ -4,8 +4,8 @@
 use Rattle.std.specs.Prelude.{ℕ, Option}
 use Rattle.field.specs.Codes.{Operations}
 use Rattle.sharing.specs.Scheme.{Plan}
-use Rattle.check.specs.declared.property.Property.TheVariants.{Opening, Hiding}
-use Rattle.check.specs.Checks.{Allowed, Grants, OnlyAnswer}
+use Rattle.plan_check.specs.declared.property.Property.TheVariants.{Opening, Hiding}
+use Rattle.plan_check.specs.Checks.{Allowed, Grants, OnlyAnswer}
 use Rattle.deal.specs.Onlooker.{DealLaws}
 
 -- Allowed is what the contracts of Admit and Vet say of an answer: the first fault in their table, else the first group that

@@ -7,7 +7,7 @@ use Rattle.std.specs.Option.{unwrap_or}
 use Rattle.field.specs.Codes.{Operations, first}
 use Rattle.field.specs.Refusals.{Rule}
 use Rattle.sharing.specs.Scheme.{Plan, lanes}
-use Rattle.check.specs.Faults.{first_no_code, faults}
+use Rattle.plan_check.specs.Faults.{first_no_code, faults}
 
 -- a line that applies where there is an index at fault, and carries it
 abbrev pub at_fault : ℕ → Option ℕ → Rule

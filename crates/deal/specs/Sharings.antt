@@ -6,7 +6,7 @@ use Rattle.std.specs.Prelude.{ℕ, ◌*◌, Bool, ◌||◌, List, is_some}
 use Rattle.field.specs.Codes.{Operations}
 use Rattle.field.specs.Refusals.{foremost}
 use Rattle.sharing.specs.Scheme.{Plan, lanes, card}
-use Rattle.check.specs.Faults.{faults}
+use Rattle.plan_check.specs.Faults.{faults}
 use Rattle.deal.specs.Faults.{store_rules}
 
 pub record Sharing : Type 0 where

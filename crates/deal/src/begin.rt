@@ -1,7 +1,7 @@
 // Beginning a deal.
 ghost use Rattle.std.specs.Prelude.{◌≡◌, Ok, Err};
 ghost use Rattle.field.specs.Refusals.{refused, foremost};
-ghost use Rattle.check.specs.Plans.{vetted_plan};
+ghost use Rattle.plan_check.specs.Plans.{vetted_plan};
 ghost use Rattle.deal.specs.Faults.{begin_rules};
 ghost use Rattle.deal.specs.Sharings.{rotated};
 ghost use Rattle.deal.specs.Calls.{fresh};
@@ -12,7 +12,7 @@ ghost use Rattle.deal.specs.Onlooker.{Begun};
 use crate::deal::Deal;
 use crate::fit::begin_fault;
 use crate::state::{CardState, MOST_CARDS, Mark, State};
-use check::plan::{Checked, Vetted};
+use plan_check::plan::{Checked, Vetted};
 use field::Field;
 use field::refusal::Refusal;
 

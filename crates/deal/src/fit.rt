@@ -2,11 +2,11 @@
 ghost use Rattle.std.specs.Prelude.{◌≡◌, ◌*◌, ◌≤◌, length};
 ghost use Rattle.field.specs.Refusals.{foremost};
 ghost use Rattle.sharing.specs.Scheme.{lanes};
-ghost use Rattle.check.specs.Faults.{listed};
+ghost use Rattle.plan_check.specs.Faults.{listed};
 ghost use Rattle.deal.specs.Faults.{store_rules, stray_padding, begin_rules};
 
 use crate::casting::lane_count;
-use check::fault::{first_no_code, plan_fault};
+use plan_check::fault::{first_no_code, plan_fault};
 use field::Field;
 use field::refusal::Refusal;
 

@@ -1,6 +1,6 @@
 // Writing a card on its blank.
 ghost use Rattle.std.specs.Prelude.{◌≡◌, not, ◌&&◌, ◌||◌, length, Ok, Err, ◌==◌};
-ghost use Rattle.check.specs.Plans.{vetted_plan};
+ghost use Rattle.plan_check.specs.Plans.{vetted_plan};
 ghost use Rattle.deal.specs.Sharings.{rotated};
 ghost use Rattle.deal.specs.Calls.{write_answer, write_after, wrote};
 
@@ -8,8 +8,8 @@ use crate::casting::{lane_count, write_card};
 use crate::deal::Deal;
 use crate::fit::store_fault;
 use crate::state::Blank;
-use check::fault::plan_fault;
-use check::plan::{Checked, Vetted};
+use plan_check::fault::plan_fault;
+use plan_check::plan::{Checked, Vetted};
 use field::Field;
 use field::refusal::Refusal;
 

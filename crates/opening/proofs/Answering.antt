@@ -7,7 +7,7 @@ use Rattle.field.specs.declared.refusal.Refusal.{Refusal}
 use Rattle.field.specs.declared.refusal.Refusal.TheVariants.{OpeningRoom}
 use Rattle.field.proofs.Limits.{passed_over}
 use Rattle.sharing.specs.Scheme.{Plan}
-use Rattle.check.specs.Faults.{listed}
+use Rattle.plan_check.specs.Faults.{listed}
 use Rattle.opening.specs.Answers.{Shut, Opened, Allowed, Answered}
 use Rattle.opening.specs.Tables.{room, inputs_table}
 use Rattle.opening.proofs.Faultless.{foremost-kept, foremost_next}

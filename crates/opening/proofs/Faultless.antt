@@ -7,9 +7,9 @@ use Rattle.field.specs.Refusals.{Rule, foremost}
 use Rattle.field.specs.Inverse.{first_none}
 use Rattle.field.proofs.Limits.{passed_over}
 use Rattle.sharing.specs.Scheme.{Plan, Sound, Codes, lanes}
-use Rattle.check.specs.Faults.{faults, no_code, first_no_code}
-use Rattle.check.proofs.Faults.{some_none, none_missing, passed, passed_both, passed_on, sound_faultless, faultless_sound}
-use Rattle.check.proofs.First.{first_nothing}
+use Rattle.plan_check.specs.Faults.{faults, no_code, first_no_code}
+use Rattle.plan_check.proofs.Faults.{some_none, none_missing, passed, passed_both, passed_on, sound_faultless, faultless_sound}
+use Rattle.plan_check.proofs.First.{first_nothing}
 use Rattle.opening.specs.Answers.{Different}
 use Rattle.opening.specs.Tables.{stands, first_beyond, first_twice, number_at, data_place, room, cards_table, data_table, inputs_table, table}
 

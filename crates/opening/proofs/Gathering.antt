@@ -4,7 +4,7 @@ use Rattle.std.proofs.lemmas.Bool.{true≢false, cases_eq, cases_Bool, eqb-true,
 use Rattle.field.specs.Codes.{first}
 use Rattle.field.specs.Inverse.{first_passes}
 use Rattle.sharing.specs.Groups.{Group, Holds, bits}
-use Rattle.check.proofs.Ranks.{Run, run_wider, run_group}
+use Rattle.plan_check.proofs.Ranks.{Run, run_wider, run_group}
 use Rattle.opening.specs.Answers.{Different}
 use Rattle.opening.specs.Quorums.{among, group}
 use Rattle.opening.specs.Tables.{stands}

@@ -5,7 +5,7 @@ use Rattle.field.specs.Codes.{Operations, Laws}
 use Rattle.field.specs.Refusals.{listing, refused, foremost}
 use Rattle.field.specs.declared.refusal.Refusal.{Refusal}
 use Rattle.sharing.specs.Scheme.{Plan, Codes, Deal, lanes, padded, store, word}
-use Rattle.check.proofs.Faults.{some_none}
+use Rattle.plan_check.proofs.Faults.{some_none}
 use Rattle.opening.specs.Answers.{padding, Opened, Allowed, Answered, data_of, GivesBack}
 use Rattle.opening.specs.Words.{Given, opened, first_loose}
 use Rattle.opening.proofs.Deals.{length_data_of, data_codes, given_of_deal, opened_of_deal}

@@ -2,7 +2,7 @@
 use Rattle.std.proofs.Common.{◌≡◌, ℕ, ◌<◌, ◌≤◌, Bool, false, not, ◌&&◌, eqb, ltb, ◌≢◌, List, length, get_or, replicate, Some, None, ap, ⊎_elim, arith}
 use Rattle.std.proofs.lemmas.List.{get_or-replicate, get_or_past, length-replicate}
 use Rattle.std.proofs.lemmas.Bool.{cases_lt, lt-ltb, le-ltb, eq-eqb, ne_eqb, and_left, and_right, and_from}
-use Rattle.check.proofs.First.{first_nothing, first_found}
+use Rattle.plan_check.proofs.First.{first_nothing, first_found}
 use Rattle.opening.specs.Words.{first_loose}
 
 -- a list of zeros reads as 0 everywhere

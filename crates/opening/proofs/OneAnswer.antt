@@ -9,8 +9,8 @@ use Rattle.linear.proofs.Coded.{sum_cong}
 use Rattle.sharing.specs.Groups.{Holds, bits}
 use Rattle.sharing.specs.Scheme.{Plan, lanes}
 use Rattle.sharing.proofs.Stores.{within, same_by_lanes}
-use Rattle.check.proofs.Faults.{some_none}
-use Rattle.check.proofs.Ranks.{Run, run_at, group_run}
+use Rattle.plan_check.proofs.Faults.{some_none}
+use Rattle.plan_check.proofs.Ranks.{Run, run_at, group_run}
 use Rattle.opening.specs.Answers.{GroupOf, padding, Shut, Opened, Allowed, Answered, OnlyAnswer}
 use Rattle.opening.specs.Tables.{table}
 use Rattle.opening.specs.Words.{key_number, opened}

@@ -14,7 +14,7 @@ use Rattle.std.specs.Option.{unwrap_or, option_map}
 use Rattle.field.specs.Codes.{Operations, first}
 use Rattle.field.specs.Refusals.{Rule}
 use Rattle.sharing.specs.Scheme.{Plan, lanes}
-use Rattle.check.specs.Faults.{first_no_code, faults}
+use Rattle.plan_check.specs.Faults.{first_no_code, faults}
 
 abbrev pub first_beyond : (n : ℕ) → List ℕ → Option ℕ
 first_beyond n cards = first (λ i. not (nat_lt (slice_index cards i) n)) (length cards)

@@ -11,7 +11,7 @@ ghost use Rattle.opening.specs.Words.{first_loose};
 use crate::quorum::Quorum;
 use crate::table::is_among;
 use crate::words::solve_rows;
-use check::guard::clear;
+use plan_check::guard::clear;
 use field::Field;
 use field::refusal::Refusal;
 

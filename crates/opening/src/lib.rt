@@ -8,11 +8,11 @@ mod table;
 mod words;
 
 ghost use Rattle.std.specs.Prelude.{◌≡◌, length};
-ghost use Rattle.check.specs.Checks.{cleared};
+ghost use Rattle.plan_check.specs.Checks.{cleared};
 ghost use Rattle.opening.specs.Answers.{Answered, OnlyAnswer, GivesBack};
 
-use check::guard::Guard;
-use check::plan::Checked;
+use plan_check::guard::Guard;
+use plan_check::plan::Checked;
 use field::Field;
 use field::refusal::Refusal;
 use key::settle;

@@ -3,10 +3,10 @@ ghost use Rattle.std.specs.Prelude.{◌≡◌, ◌+◌, ◌*◌, ◌/◌, ◌%�
 ghost use Rattle.std.specs.Option.{option_map};
 ghost use Rattle.field.specs.Refusals.{foremost};
 ghost use Rattle.sharing.specs.Scheme.{lanes as pieces};
-ghost use Rattle.check.specs.Faults.{listed};
+ghost use Rattle.plan_check.specs.Faults.{listed};
 ghost use Rattle.opening.specs.Tables.{stands, first_beyond, first_twice, data_place, cards_table, data_table, inputs_table};
 
-use check::fault::{first_no_code, plan_fault};
+use plan_check::fault::{first_no_code, plan_fault};
 use field::Field;
 use field::refusal::Refusal;
 

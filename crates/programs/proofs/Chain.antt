@@ -9,10 +9,10 @@ use Rattle.field.specs.declared.known.Known.{Known}
 use Rattle.field.specs.declared.refusal.Refusal.{Refusal}
 use Rattle.sharing.specs.Scheme.{Plan, Codes, Sound, lanes, padded, store}
 use Rattle.sharing.specs.Secrecy.{Admits, Vets}
-use Rattle.check.specs.Checks.{Allowed, Grants}
-use Rattle.check.specs.Faults.{first_no_code}
-use Rattle.check.specs.declared.property.Property.TheVariants.{Opening, Hiding}
-use Rattle.check.proofs.Faults.{all_codes, none_missing, passed}
+use Rattle.plan_check.specs.Checks.{Allowed, Grants}
+use Rattle.plan_check.specs.Faults.{first_no_code}
+use Rattle.plan_check.specs.declared.property.Property.TheVariants.{Opening, Hiding}
+use Rattle.plan_check.proofs.Faults.{all_codes, none_missing, passed}
 use Rattle.deal.specs.Faults.{at_fault, begin_rules}
 use Rattle.lines.specs.Lines.{kind_of}
 use Rattle.lines.specs.Readers.{Stand, ending, left, longest_text, opening, standing}

@@ -9,7 +9,7 @@ use Rattle.field.specs.Codes.{Operations}
 use Rattle.field.specs.Known.{operations}
 use Rattle.field.specs.declared.known.Known.{Known}
 use Rattle.sharing.specs.Scheme.{Plan, plan_of, store}
-use Rattle.check.proofs.Faults.{some_none}
+use Rattle.plan_check.proofs.Faults.{some_none}
 use Rattle.opening.specs.Answers.{Different}
 use Rattle.lines.specs.Writing.{written}
 use Rattle.slot.specs.Holdings.{Holding}

@@ -10,7 +10,7 @@ use Rattle.field.specs.Codes.{Laws, Operations}
 use Rattle.sharing.specs.Scheme.{Codes, Plan, Sound, card, lanes}
 use Rattle.sharing.proofs.Stores.{lanes_enough, length_card}
 use Rattle.opening.proofs.Deals.{data_codes}
-use Rattle.check.proofs.Faults.{none_no_code}
+use Rattle.plan_check.proofs.Faults.{none_no_code}
 use Rattle.lines.specs.Lines.{Content, planned, sized}
 use Rattle.lines.specs.RoundTrips.{Fitting}
 use Rattle.lines.specs.Writing.{written}

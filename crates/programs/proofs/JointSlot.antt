@@ -5,7 +5,7 @@ use Rattle.std.proofs.lemmas.List.{drop_more, get_or-set_other, length-set}
 use Rattle.std.proofs.lemmas.List.Sums.{sum_by-set}
 use Rattle.field.specs.Codes.{Operations}
 use Rattle.sharing.specs.Scheme.{Plan}
-use Rattle.check.proofs.Faults.{some_none}
+use Rattle.plan_check.proofs.Faults.{some_none}
 use Rattle.opening.specs.Answers.{Different}
 use Rattle.lines.specs.Writing.{written}
 use Rattle.slot.specs.Holdings.{Holding, count}

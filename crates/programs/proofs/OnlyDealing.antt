@@ -8,7 +8,7 @@ use Rattle.field.specs.Codes.{Operations}
 use Rattle.field.specs.Known.{operations}
 use Rattle.sharing.specs.Scheme.{Deal, Plan, plan_of, store}
 use Rattle.sharing.proofs.Stores.{lanes_enough}
-use Rattle.check.proofs.Faults.{some_none}
+use Rattle.plan_check.proofs.Faults.{some_none}
 use Rattle.lines.specs.Lines.{Content, padded}
 use Rattle.lines.specs.declared.fault.Fault.{Fault}
 use Rattle.lines.specs.declared.kind.Kind.TheVariants as kind

@@ -5,7 +5,7 @@ use Rattle.field.specs.Codes.{Laws, Operations}
 use Rattle.field.specs.Known.{operations}
 use Rattle.field.specs.declared.refusal.Refusal.TheVariants.{DataCode}
 use Rattle.sharing.specs.Scheme.{Plan, plan_of}
-use Rattle.check.specs.Faults.{first_no_code}
+use Rattle.plan_check.specs.Faults.{first_no_code}
 use Rattle.lines.specs.Writing.{written}
 use Rattle.lines.specs.declared.wanted.Wanted.TheVariants as wanted
 use Rattle.lines.proofs.Readings.{read_ok}

@@ -8,11 +8,11 @@ use Rattle.field.specs.declared.known.Known.{Known}
 use Rattle.field.specs.declared.known.Known.TheVariants.{Bytes, Modulo97}
 use Rattle.field.proofs.Limits.{within-parts}
 use Rattle.sharing.specs.Scheme.{Plan, Sound}
-use Rattle.check.specs.Checks.{AllPass, Allowed}
-use Rattle.check.specs.declared.property.Property.{Property}
-use Rattle.check.specs.declared.property.Property.TheVariants.{Opening, Hiding}
-use Rattle.check.proofs.Answering.{grants, only_answer}
-use Rattle.check.proofs.Faults.{some_none}
+use Rattle.plan_check.specs.Checks.{AllPass, Allowed}
+use Rattle.plan_check.specs.declared.property.Property.{Property}
+use Rattle.plan_check.specs.declared.property.Property.TheVariants.{Opening, Hiding}
+use Rattle.plan_check.proofs.Answering.{grants, only_answer}
+use Rattle.plan_check.proofs.Faults.{some_none}
 use Rattle.lines.specs.Lines.{Content, among, planned, reading}
 use Rattle.lines.specs.declared.fault.Fault.{Fault}
 use Rattle.lines.specs.declared.kind.Kind.TheVariants as kind

@@ -9,8 +9,8 @@ use Rattle.field.specs.Codes.{Operations}
 use Rattle.field.specs.Refusals.{Rule, foremost}
 use Rattle.field.proofs.Limits.{passed_over}
 use Rattle.sharing.specs.Scheme.{Plan, Sound, lanes, card}
-use Rattle.check.specs.Faults.{faults}
-use Rattle.check.proofs.Faults.{passed, passed_both, faultless_sound}
+use Rattle.plan_check.specs.Faults.{faults}
+use Rattle.plan_check.proofs.Faults.{passed, passed_both, faultless_sound}
 use Rattle.deal.specs.Faults.{begin_rules, store_rules, at_fault, stray_padding}
 use Rattle.deal.specs.Sharings.{rotated}
 use Rattle.deal.specs.Calls.{Answer, fresh, held, is_out, is_written, moved, settled, standing, take_answer, take_after, take_rules, write_answer, write_after, write_rules}

@@ -8,8 +8,8 @@ use Rattle.std.specs.Prelude.{◌≡◌, ℕ, Some}
 use Rattle.field.specs.Codes.{Operations}
 use Rattle.sharing.specs.Scheme.{Plan, Sound}
 use Rattle.sharing.specs.Secrecy.{Admits, Vets}
-use Rattle.check.specs.Checks.{Allowed}
-use Rattle.check.specs.declared.property.Property.TheVariants.{Opening, Hiding}
+use Rattle.plan_check.specs.Checks.{Allowed}
+use Rattle.plan_check.specs.declared.property.Property.TheVariants.{Opening, Hiding}
 use Rattle.programs.specs.Answers.{Answer, no_line}
 use Rattle.programs.specs.Answers.Answer.{Refuses}
 

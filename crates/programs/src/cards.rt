@@ -1,6 +1,6 @@
 // Writing all cards of a deal.
 ghost use Rattle.std.specs.Prelude.{◌≡◌, ◌+◌, ◌*◌, ◌<◌, ◌++◌, length, None, string_bytes, OnOk};
-ghost use Rattle.check.specs.Plans.{vetted_plan};
+ghost use Rattle.plan_check.specs.Plans.{vetted_plan};
 ghost use Rattle.deal.specs.Faults.{begin_rules};
 ghost use Rattle.field.specs.Refusals.{foremost};
 ghost use Rattle.lines.specs.Entries.{entered};
@@ -11,7 +11,7 @@ ghost use Rattle.programs.specs.Progress.{Ready};
 ghost use Rattle.sharing.specs.Scheme.{card, lanes};
 
 use crate::stop::{Stop, refused};
-use check::plan::{Checked, Vetted};
+use plan_check::plan::{Checked, Vetted};
 use deal::begin::begin;
 use deal::deal::Deal;
 use deal::state::Mark;

@@ -1,6 +1,6 @@
 // The dealing program, from text to text.
 ghost use Rattle.std.specs.Prelude.{◌≡◌, ◌+◌, ◌-◌, ◌≤◌, length, IfOk, string_bytes};
-ghost use Rattle.check.specs.Plans.{vetted_plan};
+ghost use Rattle.plan_check.specs.Plans.{vetted_plan};
 ghost use Rattle.lines.specs.Readers.{left, standing};
 ghost use Rattle.programs.specs.Answers.{Answer, Tells, granted, output};
 ghost use Rattle.programs.specs.Answers.Answer.{Grants};
@@ -13,7 +13,7 @@ use crate::planning::{PlanText, read_plan_lines};
 use crate::plans::vet_plan;
 use crate::stop::{Stop, excess};
 use crate::store::read_store;
-use check::plan::{Checked, Vetted};
+use plan_check::plan::{Checked, Vetted};
 use field::Field;
 use field::gf97::Gf97;
 use field::gf256::Gf256;

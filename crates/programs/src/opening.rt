@@ -1,6 +1,6 @@
 // The opening program, from text to text.
 ghost use Rattle.std.specs.Prelude.{◌≡◌, ◌+◌, ◌-◌, ◌≤◌, true, length, is_some, IfOk, string_bytes};
-ghost use Rattle.check.specs.Plans.{admitted_plan};
+ghost use Rattle.plan_check.specs.Plans.{admitted_plan};
 ghost use Rattle.lines.specs.Readers.{left, standing};
 ghost use Rattle.programs.specs.Answers.{Answer, Tells, granted, output};
 ghost use Rattle.programs.specs.Answers.Answer.{Grants};
@@ -15,7 +15,7 @@ use crate::output::{Output, say};
 use crate::planning::{PlanText, read_plan_lines};
 use crate::plans::{ROOM, admit_plan};
 use crate::stop::{Stop, slot_refused};
-use check::plan::Admitted;
+use plan_check::plan::Admitted;
 use field::Field;
 use field::gf97::Gf97;
 use field::gf256::Gf256;

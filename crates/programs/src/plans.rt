@@ -1,12 +1,12 @@
 // Checking a plan that was read.
-ghost use Rattle.check.specs.Plans.{admitted_plan, vetted_plan};
+ghost use Rattle.plan_check.specs.Plans.{admitted_plan, vetted_plan};
 ghost use Rattle.programs.specs.Answers.{Tells};
 ghost use Rattle.programs.specs.Vetting.{Fit, Passed, Unadmitted, Unvetted, room};
 ghost use Rattle.sharing.specs.Scheme.{plan_of};
 ghost use Rattle.std.specs.Prelude.{◌≡◌, length};
 
 use crate::stop::{Stop, refused};
-use check::plan::{Admitted, Drafted, Vetted};
+use plan_check::plan::{Admitted, Drafted, Vetted};
 use field::Field;
 
 // How many bytes are lent to a check.

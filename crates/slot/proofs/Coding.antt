@@ -7,8 +7,8 @@ use Rattle.field.specs.declared.refusal.Refusal.TheVariants.{DataCode}
 use Rattle.lines.specs.Lines.{Content}
 use Rattle.sharing.specs.Scheme.{Codes}
 use Rattle.sharing.proofs.Stores.{codes_all, codes_append}
-use Rattle.check.specs.Faults.{first_no_code}
-use Rattle.check.proofs.Faults.{all_codes, none_missing, none_no_code}
+use Rattle.plan_check.specs.Faults.{first_no_code}
+use Rattle.plan_check.proofs.Faults.{all_codes, none_missing, none_no_code}
 use Rattle.slot.specs.Holdings.{Cards, Holding}
 use Rattle.slot.specs.Inserts.{card_table, differs, heading_of, held_at, inserted, number_of, pulled}
 use Rattle.slot.specs.Refusals.{foremost}

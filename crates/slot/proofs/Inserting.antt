@@ -3,7 +3,7 @@ use Rattle.std.proofs.Common.{◌≡◌, ℕ, ◌+◌, ◌*◌, Bool, true, fals
 use Rattle.field.specs.Codes.{Operations}
 use Rattle.lines.specs.Lines.{Content}
 use Rattle.lines.specs.declared.fault.Fault.{Fault}
-use Rattle.check.specs.Faults.{first_no_code}
+use Rattle.plan_check.specs.Faults.{first_no_code}
 use Rattle.field.specs.declared.refusal.Refusal.TheVariants.{DataCode}
 use Rattle.slot.specs.Cards.{Limited, card_content, numbers}
 use Rattle.slot.specs.Holdings.{holding}

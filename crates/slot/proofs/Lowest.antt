@@ -6,7 +6,7 @@ use Rattle.std.proofs.ByRecursion.{All-take}
 use Rattle.std.proofs.lemmas.List.{length-take-le}
 use Rattle.field.specs.Codes.{Operations}
 use Rattle.sharing.specs.Scheme.{Plan, card}
-use Rattle.check.proofs.Ranks.{Run, run_group, run_wider}
+use Rattle.plan_check.proofs.Ranks.{Run, run_group, run_wider}
 use Rattle.opening.specs.Answers.{data_of}
 use Rattle.opening.proofs.Faultless.{Numbered}
 use Rattle.slot.specs.Holdings.{Cards, count}

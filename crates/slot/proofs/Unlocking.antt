@@ -11,8 +11,8 @@ use Rattle.field.specs.declared.refusal.Refusal.{Refusal}
 use Rattle.field.proofs.Limits.{passed_over}
 use Rattle.sharing.specs.Scheme.{Plan, lanes}
 use Rattle.sharing.specs.Scheme.{Sound as SoundPlan}
-use Rattle.check.specs.Faults.{faults}
-use Rattle.check.proofs.Faults.{faultless_sound, passed, passed_both, sound_faultless}
+use Rattle.plan_check.specs.Faults.{faults}
+use Rattle.plan_check.proofs.Faults.{faultless_sound, passed, passed_both, sound_faultless}
 use Rattle.opening.specs.Answers.{Allowed, Answered}
 use Rattle.opening.specs.Tables.{cards_table, data_place, room, table}
 use Rattle.opening.proofs.Faultless.{Numbered, foremost-kept, foremost_next, numbered_faultless}

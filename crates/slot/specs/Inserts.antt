@@ -15,7 +15,7 @@ use Rattle.std.specs.Prelude.{ℕ, ◌+◌, ◌*◌, Bool, false, cond, not, ◌
 use Rattle.std.specs.Option.{unwrap_or}
 use Rattle.field.specs.Codes.{Operations}
 use Rattle.field.specs.declared.refusal.Refusal.TheVariants.{DataCode}
-use Rattle.check.specs.Faults.{first_no_code}
+use Rattle.plan_check.specs.Faults.{first_no_code}
 use Rattle.lines.specs.Lines.{Content, reading}
 use Rattle.lines.specs.Readers.{Stand, opening, left, stepped, ending}
 use Rattle.lines.specs.declared.fault.Fault.{Fault}

@@ -22,7 +22,7 @@ use Rattle.field.specs.Refusals.{Rule, foremost}
 use Rattle.field.specs.declared.refusal.Refusal.{Refusal}
 use Rattle.sharing.specs.Scheme.{Plan, Sound, Codes, Deal, lanes, store, card}
 use Rattle.sharing.specs.Secrecy.{Admits}
-use Rattle.check.specs.Faults.{first_no_code, faults}
+use Rattle.plan_check.specs.Faults.{first_no_code, faults}
 use Rattle.opening.specs.Answers.{Shut, Opened}
 use Rattle.opening.specs.Tables.{data_place, room}
 use Rattle.slot.specs.Holdings.{Cards, Holding, count}

@@ -1,6 +1,6 @@
 // What the slot refuses of a card that was read.
 ghost use Rattle.std.specs.Prelude.{◌≡◌, ◌<◌, ◌≤◌, length, is_some, IfSome};
-ghost use Rattle.check.specs.Faults.{first_no_code};
+ghost use Rattle.plan_check.specs.Faults.{first_no_code};
 ghost use Rattle.lines.specs.Digits.{spelled};
 ghost use Rattle.slot.specs.Cards.{card_content, numbers};
 ghost use Rattle.slot.specs.Holdings.{holding};

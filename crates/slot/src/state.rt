@@ -8,7 +8,7 @@ ghost use Rattle.slot.specs.States.{laid, put, taken, emptied};
 use crate::card::Card;
 use crate::memory::State;
 use crate::phase::Event;
-use check::guard::clear;
+use plan_check::guard::clear;
 use lines::Part;
 
 // How many cards are held.

@@ -2,7 +2,7 @@
 use crate::phase::Phase;
 use crate::refusal::SlotRefusal;
 use crate::slot::Slot;
-use check::plan::Drafted;
+use plan_check::plan::Drafted;
 use field::Field;
 use field::gf97::Gf97;
 use field::gf256::Gf256;

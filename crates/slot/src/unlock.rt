@@ -2,7 +2,7 @@
 ghost use Rattle.std.specs.Prelude.{◌≡◌, ℕ, List, length, None};
 ghost use Rattle.field.specs.Refusals.{foremost};
 ghost use Rattle.sharing.specs.Scheme.{plan_of};
-ghost use Rattle.check.specs.Checks.{cleared};
+ghost use Rattle.plan_check.specs.Checks.{cleared};
 ghost use Rattle.slot.specs.Holdings.{holding};
 ghost use Rattle.slot.specs.Phases.{first_heading};
 ghost use Rattle.slot.specs.Unlocks.{Coded, GivesKey, OnlyUnlocked, Unlocked, listed, no_code_held, other_plan, plan_table};
@@ -12,9 +12,9 @@ use crate::phase::Phase;
 use crate::refusal::SlotRefusal;
 use crate::slot::Slot;
 use crate::state::count;
-use check::fault::plan_fault;
-use check::guard::Guard;
-use check::plan::Checked;
+use plan_check::fault::plan_fault;
+use plan_check::guard::Guard;
+use plan_check::plan::Checked;
 use field::Field;
 use opening::open;
 

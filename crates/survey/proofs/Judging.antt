@@ -12,11 +12,11 @@ use Rattle.field.specs.Inverse.{inverse_product}
 use Rattle.field.proofs.Limits.{within-parts}
 use Rattle.sharing.specs.Scheme.{Plan, Sound}
 use Rattle.sharing.specs.Secrecy.{Admits, Vets}
-use Rattle.check.specs.Checks.{Allowed, AllPass, Grants, Passes, Settled, Searched, table, failure, group_size}
-use Rattle.check.specs.declared.property.Property.{Property}
-use Rattle.check.specs.declared.property.Property.TheVariants.{Opening, Hiding}
-use Rattle.check.proofs.Answering.{table_none, only_answer}
-use Rattle.check.proofs.Faults.{some_none}
+use Rattle.plan_check.specs.Checks.{Allowed, AllPass, Grants, Passes, Settled, Searched, table, failure, group_size}
+use Rattle.plan_check.specs.declared.property.Property.{Property}
+use Rattle.plan_check.specs.declared.property.Property.TheVariants.{Opening, Hiding}
+use Rattle.plan_check.proofs.Answering.{table_none, only_answer}
+use Rattle.plan_check.proofs.Faults.{some_none}
 use Rattle.survey.specs.Verdicts.{cauchy_plan, Judged, Named, OnlyVerdict}
 use Rattle.survey.specs.declared.verdict.Verdict.{Verdict}
 use Rattle.survey.specs.declared.verdict.Verdict.TheVariants.{OutOfLimits, NotAdmitted, Tells, Vetted}

@@ -1,7 +1,7 @@
 // What the two checks of a plan come to for Cauchy rows.
 ghost use Rattle.survey.specs.Verdicts.{Judged, OnlyVerdict};
 
-use check::plan::Drafted;
+use plan_check::plan::Drafted;
 use field::Field;
 use field::rows::{cauchy_rows, within_limits};
 

@@ -2,7 +2,7 @@
 // written as lines and read back, admitted and vetted; then a key is dealt onto five cards.
 #![tactic(auto)]
 
-use check::plan::{Drafted, Vetted};
+use plan_check::plan::{Drafted, Vetted};
 use deal::begin::begin;
 use deal::deal::Deal;
 use deal::state::Mark;

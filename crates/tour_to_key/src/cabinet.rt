@@ -1,6 +1,6 @@
 // The cabinet: the written cards go into its slot as the lines that were printed, and three of them open the key.
 use crate::{ROOM, said};
-use check::plan::Vetted;
+use plan_check::plan::Vetted;
 use field::Field;
 use slot::phase::Phase;
 use slot::slot::Slot;

@@ -5,7 +5,7 @@
 mod cabinet;
 
 use crate::cabinet::opened;
-use check::plan::{Drafted, Vetted};
+use plan_check::plan::{Drafted, Vetted};
 use deal::begin::begin;
 use deal::deal::Deal;
 use deal::state::Mark;

@@ -11,12 +11,12 @@ use Rattle.sharing.specs.Scheme.{Plan, Sound}
 use Rattle.sharing.specs.Systems.{OnlyZero, opening_matrix, hiding_matrix, lane_size}
 use Rattle.sharing.proofs.Hiding.{hides_exactly}
 use Rattle.sharing.proofs.OneWord.{opens_exactly}
-use Rattle.check.specs.Checks.{AllPass, Allowed, Passes, Searched, Settled, failure, group_size, table}
-use Rattle.check.specs.declared.property.Property.{Property}
-use Rattle.check.specs.declared.property.Property.TheVariants.{Opening, Hiding}
-use Rattle.check.proofs.Answering.{all_pass, table_sound}
-use Rattle.check.proofs.Ranks.{Run, members, members_run, run_group}
-use Rattle.check.proofs.Searching.{Down, down_start, down_more, down_first}
+use Rattle.plan_check.specs.Checks.{AllPass, Allowed, Passes, Searched, Settled, failure, group_size, table}
+use Rattle.plan_check.specs.declared.property.Property.{Property}
+use Rattle.plan_check.specs.declared.property.Property.TheVariants.{Opening, Hiding}
+use Rattle.plan_check.proofs.Answering.{all_pass, table_sound}
+use Rattle.plan_check.proofs.Ranks.{Run, members, members_run, run_group}
+use Rattle.plan_check.proofs.Searching.{Down, down_start, down_more, down_first}
 use Rattle.worked.proofs.Inverses.{only_zero_of_inverse}
 
 -- a test of every number below n

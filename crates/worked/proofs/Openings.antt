@@ -17,9 +17,9 @@ use Rattle.sharing.specs.Scheme.{Plan, lanes}
 use Rattle.sharing.specs.Systems.{opening_matrix}
 use Rattle.sharing.proofs.OneWord.{opens_exactly}
 use Rattle.sharing.proofs.Stores.{codes_all}
-use Rattle.check.specs.declared.property.Property.TheVariants.{Opening as Group-opens}
-use Rattle.check.proofs.Faults.{passed_both}
-use Rattle.check.proofs.Ranks.{Run, run_group}
+use Rattle.plan_check.specs.declared.property.Property.TheVariants.{Opening as Group-opens}
+use Rattle.plan_check.proofs.Faults.{passed_both}
+use Rattle.plan_check.proofs.Ranks.{Run, run_group}
 use Rattle.opening.specs.Answers.{Allowed, Answered, Opened, padding}
 use Rattle.opening.specs.Tables.{inputs_table, room, table}
 use Rattle.opening.specs.Words.{Given, card_number, opened}

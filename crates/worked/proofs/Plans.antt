@@ -10,10 +10,10 @@ use Rattle.field.specs.Bytes.{gf256_laws}
 use Rattle.field.specs.Modulo97Lemmas.{gf97_laws}
 use Rattle.sharing.specs.Scheme.{Plan, Sound}
 use Rattle.sharing.specs.Secrecy.{Admits}
-use Rattle.check.specs.Checks.{Allowed, table}
-use Rattle.check.specs.declared.property.Property.TheVariants.{Opening, Hiding}
-use Rattle.check.proofs.Answering.{only_answer}
-use Rattle.check.proofs.Ranks.{members}
+use Rattle.plan_check.specs.Checks.{Allowed, table}
+use Rattle.plan_check.specs.declared.property.Property.TheVariants.{Opening, Hiding}
+use Rattle.plan_check.proofs.Answering.{only_answer}
+use Rattle.plan_check.proofs.Ranks.{members}
 use Rattle.opening.specs.Tables.{room}
 use Rattle.programs.specs.Vetting.{Passed}
 use Rattle.programs.proofs.KnownFields.{laws_of}

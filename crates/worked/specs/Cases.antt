@@ -24,9 +24,9 @@ use Rattle.field.specs.declared.refusal.Refusal.{Refusal}
 use Rattle.sharing.specs.Scheme.{Plan, plan_of}
 use Rattle.sharing.specs.Worked as deals
 use Rattle.sharing.specs.Worked.{Worked, worked_deals}
-use Rattle.check.specs.Checks as checks
-use Rattle.check.specs.declared.property.Property.{Property}
-use Rattle.check.specs.declared.property.Property.TheVariants as property
+use Rattle.plan_check.specs.Checks as checks
+use Rattle.plan_check.specs.declared.property.Property.{Property}
+use Rattle.plan_check.specs.declared.property.Property.TheVariants as property
 use Rattle.lines.specs.Worked.{closed}
 use Rattle.opening.specs.Answers as openings
 use Rattle.opening.specs.Tables.{room}

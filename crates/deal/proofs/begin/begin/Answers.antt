@@ -4,8 +4,8 @@ use Rattle.std.proofs.lemmas.Bool.{false≢true}
 use Rattle.field.specs.Refusals.{foremost}
 use Rattle.field.proofs.Limits.{within-parts}
 use Rattle.sharing.specs.Scheme.{Plan}
-use Rattle.check.specs.Faults.{listed}
-use Rattle.check.specs.Plans.{vetted_plan}
+use Rattle.plan_check.specs.Faults.{listed}
+use Rattle.plan_check.specs.Plans.{vetted_plan}
 use Rattle.deal.specs.Faults.{begin_rules}
 use Rattle.deal.specs.Sharings.{rotated}
 use Rattle.deal.specs.Calls.{is_out, is_written, fresh}

@@ -1,7 +1,7 @@
 -- What is proved of the checks and of a deal, put together.
 use Rattle.std.proofs.Common.{arith}
-use Rattle.check.specs.declared.property.Property.TheVariants.{Opening, Hiding}
-use Rattle.check.proofs.Answering.{grants, only_answer}
+use Rattle.plan_check.specs.declared.property.Property.TheVariants.{Opening, Hiding}
+use Rattle.plan_check.proofs.Answering.{grants, only_answer}
 use Rattle.deal.proofs.Laws.{deal_laws}
 use Rattle.deal.proofs.begin.card_set_law.Goals as goal
 

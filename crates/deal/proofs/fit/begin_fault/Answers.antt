@@ -2,7 +2,7 @@
 use Rattle.std.proofs.Common.{◌*◌, not, ◌&&◌, eqb, leb, get_or, sym, ap, ◌∙◌, arith}
 use Rattle.field.specs.Inverse.{first_passes}
 use Rattle.sharing.specs.Scheme.{Plan, Sound, lanes}
-use Rattle.check.specs.Faults.{listed, faults}
+use Rattle.plan_check.specs.Faults.{listed, faults}
 use Rattle.deal.proofs.Faults.{clear-table, sound_plan}
 use Rattle.deal.proofs.Places.{block_small}
 use Rattle.deal.proofs.fit.begin_fault.Goals as goal

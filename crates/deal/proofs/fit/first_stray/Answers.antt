@@ -2,7 +2,7 @@
 use Rattle.std.proofs.Common.{ℕ, ◌*◌, Bool, not, ◌&&◌, eqb, leb, get_or, sym, ap, arith}
 use Rattle.std.proofs.lemmas.Bool.{and_from, le-leb, ne_eqb}
 use Rattle.sharing.specs.Scheme.{lanes}
-use Rattle.check.proofs.First.{first_nothing, first_found}
+use Rattle.plan_check.proofs.First.{first_nothing, first_found}
 use Rattle.deal.proofs.Places.{block_inside}
 use Rattle.deal.proofs.fit.first_stray.Goals as goal
 

@@ -1,7 +1,7 @@
 -- The store is small, so that an index into it fits 16 bits.
 use Rattle.std.proofs.Common.{◌*◌, ◌≤◌, length, sym, subst, arith}
 use Rattle.field.specs.Inverse.{first_passes}
-use Rattle.check.specs.Faults.{no_code}
+use Rattle.plan_check.specs.Faults.{no_code}
 use Rattle.deal.proofs.Places.{store_small}
 use Rattle.deal.proofs.fit.store_fault.Goals as goal
 

@@ -2,7 +2,7 @@
 use Rattle.std.proofs.Common.{◌*◌, ◌<◌, length, sym, ap, arith}
 use Rattle.std.proofs.lemmas.Nat.{div_below}
 use Rattle.field.specs.Inverse.{first_passes}
-use Rattle.check.specs.Faults.{no_code}
+use Rattle.plan_check.specs.Faults.{no_code}
 use Rattle.sharing.proofs.Stores.{lanes_enough}
 use Rattle.opening.proofs.Limits.{lanes-most}
 use Rattle.opening.proofs.table.data_fault.Goals as goal

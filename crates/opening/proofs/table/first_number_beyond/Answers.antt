@@ -2,7 +2,7 @@
 use Rattle.std.proofs.Common.{not, ltb, length, get_or, sym, ap, arith}
 use Rattle.std.specs.Option.{option_map}
 use Rattle.std.proofs.lemmas.Bool.{le-ltb}
-use Rattle.check.proofs.First.{first_nothing, first_found}
+use Rattle.plan_check.proofs.First.{first_nothing, first_found}
 use Rattle.opening.proofs.table.first_number_beyond.Goals as goal
 
 pub returns-then-cards-i : goal.returns-then-cards-i

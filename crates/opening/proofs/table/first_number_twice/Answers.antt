@@ -1,7 +1,7 @@
 -- The loop finds the first number that stood before, or there is none.
 use Rattle.std.proofs.Common.{length, get_or, sym, ap, arith}
 use Rattle.std.specs.Option.{option_map}
-use Rattle.check.proofs.First.{first_nothing, first_found}
+use Rattle.plan_check.proofs.First.{first_nothing, first_found}
 use Rattle.opening.specs.Tables.{stands}
 use Rattle.opening.proofs.table.first_number_twice.Goals as goal
 

@@ -1,7 +1,7 @@
 -- The first part of the table in which a line holds gives the fault.
 use Rattle.std.proofs.Common.{not, eqb, List, [], ◌∷◌, ◌++◌, sym, ◌∙◌}
 use Rattle.field.specs.Refusals.{Rule, listing}
-use Rattle.check.specs.Faults.{faults}
+use Rattle.plan_check.specs.Faults.{faults}
 use Rattle.sharing.specs.Scheme.{Plan}
 use Rattle.opening.specs.Tables.{cards_table, data_table}
 use Rattle.opening.proofs.Faultless.{foremost-kept, foremost_next}

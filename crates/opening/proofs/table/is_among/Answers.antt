@@ -1,7 +1,7 @@
 -- The loop finds the number, or it stands at none of the places.
 use Rattle.std.proofs.Common.{eqb, get_or, is_some, sym, ap, arith}
 use Rattle.std.proofs.lemmas.Bool.{eq-eqb}
-use Rattle.check.proofs.First.{first_nothing, first_found}
+use Rattle.plan_check.proofs.First.{first_nothing, first_found}
 use Rattle.opening.proofs.table.is_among.Goals as goal
 
 pub returns-then-cards-k : goal.returns-then-cards-k

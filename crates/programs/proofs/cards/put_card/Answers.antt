@@ -1,6 +1,6 @@
 -- In its turn a blank is granted, and so is the card on it.
 use Rattle.std.proofs.Common.{length}
-use Rattle.check.specs.Plans.{vetted_plan}
+use Rattle.plan_check.specs.Plans.{vetted_plan}
 use Rattle.programs.proofs.Turns.{take_never, write_data, write_never, write_ready}
 use Rattle.programs.proofs.cards.put_card.Goals as goal
 

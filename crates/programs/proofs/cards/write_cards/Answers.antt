@@ -1,6 +1,6 @@
 -- One card more is written, and its line stands behind the others.
 use Rattle.std.proofs.Common.{string_bytes, ◌∙◌}
-use Rattle.check.specs.Plans.{vetted_plan}
+use Rattle.plan_check.specs.Plans.{vetted_plan}
 use Rattle.programs.proofs.Turns.{cards_more}
 use Rattle.programs.proofs.cards.write_cards.Goals as goal
 

@@ -1,7 +1,7 @@
 -- The cards so far are written, and the next one's turn has come.
 use Rattle.std.proofs.Common.{◌≡◌, ◌*◌, map, length, string_bytes}
 use Rattle.std.specs.List.{range_with_len}
-use Rattle.check.specs.Plans.{vetted_plan}
+use Rattle.plan_check.specs.Plans.{vetted_plan}
 use Rattle.sharing.specs.Scheme.{card, lanes}
 use Rattle.programs.specs.Progress.{Ready}
 use Rattle.programs.specs.Texts.{card_line, text_of}

@@ -1,7 +1,7 @@
 -- The key lines' fault, text after them, Begin's refusal, or all cards.
 use Rattle.std.proofs.Common.{string_bytes, ap, ◌∙◌, subst}
 use Rattle.std.proofs.lemmas.Result.{err_from_is_err_and}
-use Rattle.check.specs.Plans.{vetted_plan}
+use Rattle.plan_check.specs.Plans.{vetted_plan}
 use Rattle.lines.specs.Readers.{left, standing}
 use Rattle.programs.specs.Answers.Answer.{Grants}
 use Rattle.programs.specs.Dealing.{Dealt}

@@ -2,7 +2,7 @@
 use Rattle.std.proofs.Common.{◌+◌, ◌-◌, string_bytes, ap}
 use Rattle.std.proofs.lemmas.Result.{err_from_is_err_and}
 use Rattle.sharing.specs.Scheme.{plan_of}
-use Rattle.check.specs.Plans.{vetted_plan}
+use Rattle.plan_check.specs.Plans.{vetted_plan}
 use Rattle.lines.specs.Readers.{left, standing}
 use Rattle.programs.specs.Answers.Answer.{Grants}
 use Rattle.programs.specs.Dealing.{Examined}

@@ -2,7 +2,7 @@
 use Rattle.std.proofs.Common.{ℕ, ◌-◌, ◌++◌, length, take, drop, replicate, string_bytes, sym, refl, ap, ◌∙◌}
 use Rattle.std.proofs.lemmas.List.{length-replicate}
 use Rattle.std.proofs.lemmas.Result.{err_from_is_err_and}
-use Rattle.check.specs.Plans.{admitted_plan}
+use Rattle.plan_check.specs.Plans.{admitted_plan}
 use Rattle.slot.specs.Holdings.{holding}
 use Rattle.lines.specs.Writing.{written}
 use Rattle.programs.specs.Texts.{key_line}

@@ -1,8 +1,8 @@
 -- What the loop meets is the first number that is no code, or there is none.
 use Rattle.std.proofs.Common.{◌<◌, not, length, get_or, sym, ap, arith, below_more}
 use Rattle.std.proofs.lemmas.Bool.{le-ltb, lt-ltb}
-use Rattle.check.specs.Faults.{no_code}
-use Rattle.check.proofs.First.{first_nothing, first_found}
+use Rattle.plan_check.specs.Faults.{no_code}
+use Rattle.plan_check.proofs.First.{first_nothing, first_found}
 use Rattle.lines.specs.Digits.{spelled}
 use Rattle.slot.proofs.refuse.first_no_code_in.Goals as goal
 

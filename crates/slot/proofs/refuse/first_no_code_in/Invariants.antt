@@ -1,6 +1,6 @@
 -- Every number that the loop has passed is a code.
 use Rattle.std.proofs.Common.{◌≡◌, ℕ, ◌<◌, false}
-use Rattle.check.specs.Faults.{no_code}
+use Rattle.plan_check.specs.Faults.{no_code}
 use Rattle.lines.specs.Digits.{spelled}
 use Rattle.slot.proofs.refuse.first_no_code_in.Given as goal
 

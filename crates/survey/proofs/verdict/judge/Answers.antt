@@ -4,7 +4,7 @@ use Rattle.std.proofs.lemmas.List.{length-take-le, length-replicate}
 use Rattle.field.specs.Refusals.{listing}
 use Rattle.field.proofs.Limits.{no_fault}
 use Rattle.sharing.specs.Scheme.{plan_of}
-use Rattle.check.proofs.Faults.{some_none}
+use Rattle.plan_check.proofs.Faults.{some_none}
 use Rattle.survey.specs.declared.verdict.Verdict.TheVariants.{NotAdmitted, Tells, Vetted}
 use Rattle.survey.proofs.Judging.{rows_fit, shut, opening, telling, vetted, only_verdict}
 use Rattle.survey.proofs.verdict.judge.Goals as goal
