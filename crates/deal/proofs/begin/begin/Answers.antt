@@ -15,8 +15,8 @@ use Rattle.deal.proofs.Accounts.{all_wait, accounts}
 use Rattle.deal.proofs.Laws.{begun, begin_limits, fresh_none}
 use Rattle.deal.proofs.begin.begin.Goals as goal
 
-pub invariant-of-result : goal.invariant-of-result
-invariant-of-result g c =
+pub invariant_of-result : goal.invariant_of-result
+invariant_of-result g c =
     let o = g.F.Field.ops in
     let L = c.args.len in
     let s = c.args.store.now in
@@ -26,19 +26,16 @@ invariant-of-result g c =
     let none : foremost (begin_rules o p L s) ≡ None = sym c.begin_fault.ensures ∙ ap listed c.in_default.is in
     let limits = begin_limits o p L s (clear-table (begin_rules o p L s) none) in
     let outs = fresh_none is_out refl n in
-    let writes = fresh_none is_written refl n in (
-      limits.0,
-      (
-        limits.1,
-        (
-          limits.2,
-          (
-            refl,
-            ((λ j e. absurd (false≢true (sym (ap is_out (all_wait 8 j)) ∙ e))), (omega (arith, outs, writes), (omega arith, tt))),
-          ),
-        ),
-      ),
-    )
+    let writes = fresh_none is_written refl n in
+    record {
+      limits = limits.0;
+      some = limits.1;
+      size = limits.2;
+      long = refl;
+      below = λ j e. absurd (false≢true (sym (ap is_out (all_wait 8 j)) ∙ e));
+      balance = omega (arith, outs, writes);
+      most = omega arith;
+    }
 
 pub returns : goal.returns
 returns g c =

@@ -4,7 +4,7 @@ use Rattle.std.proofs.lemmas.Nat.{one_shl}
 use Rattle.opening.specs.Tables.{stands}
 use Rattle.opening.proofs.Gathering.{bits_with, bits_without}
 use Rattle.opening.proofs.key.group_bits.Goals as goal
-use Rattle.opening.proofs.key.group_bits.Goals.{then-is-among, else-is-among}
+use Rattle.opening.proofs.key.group_bits.Goals.{then-is_among, else-is_among}
 
 pub loop-card-preserved : goal.loop-card-preserved
 loop-card-preserved c =
@@ -16,10 +16,10 @@ loop-card-preserved c =
     let weight : (1 * 2 ^ card) % 2 ^ 16 ≡ 2 ^ card = one_shl card 16 (omega arith) in
     let most : 2 ^ card ≤ 2 ^ 7 = pow_mono {i = card} {j = 7} (omega arith) in
     elim c.if-is_among.branch [
-      | then-is-among w ↦
+      | then-is_among w ↦
           let rest = bits_with (stands cards (length cards)) card n below (sym w.if-is_among.ensures) in
           (omega (arith, w.total-is), omega (arith, w.total-is))
-      | else-is-among w ↦
+      | else-is_among w ↦
           let rest = bits_without (stands cards (length cards)) card n below (sym w.if-is_among.ensures) in
           (omega (arith, w.total-is), omega (arith, w.total-is))
     ]

@@ -17,8 +17,8 @@ pub solve_rows-requires : goal.solve_rows-requires
 solve_rows-requires g c =
     record {
       fits = c.requires.fits;
-      matrix-long = omega arith;
-      sums-long = omega arith;
+      matrix_long = omega arith;
+      sums_long = omega arith;
       zeros = λ y. ap (λ s. get_or s y 0) c.clear.ensures ∙ zero_at _ y;
     }
 

@@ -10,9 +10,9 @@ system_number-requires g c =
     let inside : c.loop-y.y < q.t * (q.t + q.lanes) = omega arith in
     record {
       fits = c.requires.fits;
-      i-below = c.requires.i_below;
-      m-below = div_below c.loop-y.y (q.t + q.lanes) q.t some inside;
-      c-below = mod_below c.loop-y.y (q.t + q.lanes) some;
+      i_below = c.requires.i_below;
+      m_below = div_below c.loop-y.y (q.t + q.lanes) q.t some inside;
+      c_below = mod_below c.loop-y.y (q.t + q.lanes) some;
     }
 
 pub loop-y-preserved : goal.loop-y-preserved

@@ -19,13 +19,13 @@ loop-j-preserved c =
       | in-Waiting w ↦
           (let o = counted_next is_out d j c.loop-j.out Waiting so_far.0 w.in-Waiting.is in
           let v = counted_next is_written d j c.loop-j.written Waiting so_far.1 w.in-Waiting.is in
-          (omega (arith, w.out_is), omega (arith, w.written-is), omega (arith, w.out_is), omega (arith, w.written-is)))
+          (omega (arith, w.out-is), omega (arith, w.written-is), omega (arith, w.out-is), omega (arith, w.written-is)))
       | in-Out w ↦
           (let o = counted_next is_out d j c.loop-j.out Out so_far.0 w.in-Out.is in
           let v = counted_next is_written d j c.loop-j.written Out so_far.1 w.in-Out.is in
-          (omega (arith, w.out_is), omega (arith, w.written-is), omega (arith, w.out_is), omega (arith, w.written-is)))
+          (omega (arith, w.out-is), omega (arith, w.written-is), omega (arith, w.out-is), omega (arith, w.written-is)))
       | in-Written w ↦
           (let o = counted_next is_out d j c.loop-j.out Written so_far.0 w.in-Written.is in
           let v = counted_next is_written d j c.loop-j.written Written so_far.1 w.in-Written.is in
-          (omega (arith, w.out_is), omega (arith, w.written-is), omega (arith, w.out_is), omega (arith, w.written-is)))
+          (omega (arith, w.out-is), omega (arith, w.written-is), omega (arith, w.out-is), omega (arith, w.written-is)))
     ]

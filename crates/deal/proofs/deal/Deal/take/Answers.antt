@@ -6,8 +6,8 @@ use Rattle.deal.specs.Calls.{is_out, is_written}
 use Rattle.deal.proofs.Cards.{tally_up, tally_level, still_below}
 use Rattle.deal.proofs.deal.Deal.take.Goals as goal
 
-pub invariant-of-self : goal.invariant-of-self
-invariant-of-self c =
+pub invariant_of-self : goal.invariant_of-self
+invariant_of-self c =
     let self = c.args.self.now in
     let d = self.state in
     let j = c.args.j in
@@ -16,16 +16,13 @@ invariant-of-self c =
     let within : j < length d.cards = omega (arith, self.long) in
     let waits = c.in-Waiting.is in
     let outs = tally_up is_out d.cards d.n j Out within lt (ap is_out waits) refl in
-    let writes = tally_level is_written d.cards d.n j Out within (ap is_written waits) in (
-      self.limits,
-      (
-        self.some,
-        (
-          self.size,
-          (
-            length-set d.cards j Out ∙ self.long,
-            (still_below is_out d.cards d.n j Out within lt self.below, (omega (arith, self.balance), omega arith)),
-          ),
-        ),
-      ),
-    )
+    let writes = tally_level is_written d.cards d.n j Out within (ap is_written waits) in
+    record {
+      limits = self.limits;
+      some = self.some;
+      size = self.size;
+      long = length-set d.cards j Out ∙ self.long;
+      below = still_below is_out d.cards d.n j Out within lt self.below;
+      balance = omega (arith, self.balance);
+      most = omega arith;
+    }

@@ -31,14 +31,14 @@ put-requires g c =
       fits = omega (arith, l.long, card_fits card.heading l.limits);
     }
 
-pub invariant-of-self : goal.invariant-of-self
-invariant-of-self g c =
+pub invariant_of-self : goal.invariant_of-self
+invariant_of-self g c =
     let v = c.args.self.now in
     let card = c.in_ok-card.card in
     let l = c.in_ok-card.ensures.limited in
     let sound : Sound v.state = record { long = v.long; eight = v.eight; limits = v.limits; phased = v.phased; below = v.below } in
     let s = subst Sound (sym c.put.ensures) (card_sound g.F.Field.ops g.F.Field.ops.mark v.state sound card l (sym c.in_default.ensures)) in
-    (s.long, (s.eight, (s.limits, (s.phased, (s.below, tt)))))
+    record { long = s.long; eight = s.eight; limits = s.limits; phased = s.phased; below = s.below }
 
 pub returns : goal.returns
 returns g c =

@@ -22,14 +22,14 @@ returns-then-not-holds g c =
       codes = λ coded. coded;
     }
 
-pub invariant-of-self : goal.invariant-of-self
-invariant-of-self g c =
+pub invariant_of-self : goal.invariant_of-self
+invariant_of-self g c =
     let v = c.args.self.now in
     let j = c.args.number in
     let sound : Sound v.state = record { long = v.long; eight = v.eight; limits = v.limits; phased = v.phased; below = v.below } in
     let is : get_or v.state.held j false ≡ true = sym (held_flag v.state j v.eight) ∙ sym c.if-not-holds.ensures in
     let s = subst Sound (sym c.take_out.ensures) (taken_sound v.state sound j is) in
-    (s.long, (s.eight, (s.limits, (s.phased, (s.below, tt)))))
+    record { long = s.long; eight = s.eight; limits = s.limits; phased = s.phased; below = s.below }
 
 pub returns : goal.returns
 returns g c =
