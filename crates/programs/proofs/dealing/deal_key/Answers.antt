@@ -14,7 +14,7 @@ use Rattle.programs.proofs.dealing.deal_key.Goals as goal
 -- src/dealing.rt:52:24
 pub returns-in_err-mark : goal.returns-in_err-mark
 returns-in_err-mark g c =
-    let p = err_from_is_err_and c.from-residual.result c.from-residual.ensures.1 in
+    let p = err_from_is_err_and c.from_residual.result c.from_residual.ensures.1 in
     let text = left (standing c.args.reader.now) in
     rw (p.1, p.2)
     (stops_more _ (λ a. Unkeyed c.threshold.result c.args.line text a) (λ a. Dealt g.F.Field.ops (vetted_plan c.args.plan.now) c.args.line text a)

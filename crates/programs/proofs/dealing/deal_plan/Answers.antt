@@ -15,7 +15,7 @@ use Rattle.programs.proofs.dealing.deal_plan.Goals as goal
 -- src/dealing.rt:65:16
 pub returns-in_err-plan : goal.returns-in_err-plan
 returns-in_err-plan g c =
-    let p = err_from_is_err_and c.from-residual.result c.from-residual.ensures.1 in
+    let p = err_from_is_err_and c.from_residual.result c.from_residual.ensures.1 in
     let plan = plan_of c.args.t c.args.n c.args.rows.now in
     rw (p.1, p.2)
     (stops_more _ (λ a. Unvetted g.F.Field.ops plan a) (λ a. Examined g.F.Field.ops plan (1 + (c.args.n - c.args.t)) (left (standing c.args.reader.now)) a)

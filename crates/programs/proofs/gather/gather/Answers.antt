@@ -24,7 +24,7 @@ put_in-requires g c =
 
 pub returns-in_err-put_in : goal.returns-in_err-put_in
 returns-in_err-put_in g c =
-    let p = err_from_is_err_and c.from-residual.result c.from-residual.ensures.1 in
+    let p = err_from_is_err_and c.from_residual.result c.from_residual.ensures.1 in
     let o = g.F.Field.ops in
     let s = holding c.loop-k.slot.state in
     let text = left (standing c.args.reader.now) in

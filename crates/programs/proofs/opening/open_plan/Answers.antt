@@ -15,7 +15,7 @@ use Rattle.programs.proofs.opening.open_plan.Goals as goal
 
 pub returns-in_err-gather : goal.returns-in_err-gather
 returns-in_err-gather g c =
-    let p = err_from_is_err_and c.from-residual-in_err-gather.result c.from-residual-in_err-gather.ensures.1 in
+    let p = err_from_is_err_and c.from_residual-in_err-gather.result c.from_residual-in_err-gather.ensures.1 in
     let o = g.F.Field.ops in
     let plan = plan_of c.args.t c.args.n c.args.rows.now in
     let text = left (standing c.args.reader.now) in

@@ -21,7 +21,7 @@ returns-in-Err g c =
     (zeros_part c.from.result c.from.result refl (size_most c.args.slot.now.state c.in-Some.heading c.from.result (sym c.in-Some.ensures) c.from.ensures c.args.slot.now.limits)) (length-replicate {A = ℕ} 4096 0) c.in-Err.refusal c.slot_refused.result c.slot_refused.ensures c.in-Err.ensures.answer
 
 pub returns-in_err-put_line : goal.returns-in_err-put_line
-returns-in_err-put_line g c = let p = err_from_is_err_and c.from-residual.result c.from-residual.ensures.1 in rw (p.1, p.2) tt
+returns-in_err-put_line g c = let p = err_from_is_err_and c.from_residual.result c.from_residual.ensures.1 in rw (p.1, p.2) tt
 
 pub returns : goal.returns
 returns g c =

@@ -17,7 +17,7 @@ use Rattle.programs.proofs.opening.open_text.Goals as goal
 
 pub returns-in_err-plan : goal.returns-in_err-plan
 returns-in_err-plan c =
-    let p = err_from_is_err_and c.from-residual.result c.from-residual.ensures.1 in
+    let p = err_from_is_err_and c.from_residual.result c.from_residual.ensures.1 in
     rw (p.1, p.2)
     (stops_more _ (λ a. Unplanned c.args.text.now a) (λ a. Opening c.args.text.now a) (λ a u. unplanned u) c.in_err-plan.ensures)
 

@@ -25,7 +25,7 @@ returns-in-Err-read_plan c =
 
 pub returns-in_err-read_block : goal.returns-in_err-read_block
 returns-in_err-read_block c =
-    let p = err_from_is_err_and c.from-residual.result c.from-residual.ensures.1 in
+    let p = err_from_is_err_and c.from_residual.result c.from_residual.ensures.1 in
     let o = opened_at c.in-Ok.reader c.args.text.now c.in-Ok.ensures in
     let l = c.in-Ok-read_plan.plan in
     let mid = left (standing c.read_plan.new.reader) in

@@ -14,7 +14,7 @@ admit_plan-requires g c = length-replicate {A = ℕ} 4096 0
 
 pub returns-in_err-admitted : goal.returns-in_err-admitted
 returns-in_err-admitted g c =
-    let p = err_from_is_err_and c.from-residual.result c.from-residual.ensures.1 in
+    let p = err_from_is_err_and c.from_residual.result c.from_residual.ensures.1 in
     let plan = plan_of c.args.t c.args.n c.args.rows.now in
     rw (p.1, p.2)
     (stops_more _ (λ a. Unadmitted g.F.Field.ops plan a) (λ a. Unvetted g.F.Field.ops plan a) (λ a u. not_admitted u.0 u.1 u.2) c.in_err-admitted.ensures)

@@ -9,7 +9,7 @@ use Rattle.programs.proofs.reading.read_key.Goals as goal
 -- src/reading.rt:65:16
 pub returns-in_err-line : goal.returns-in_err-line
 returns-in_err-line c =
-    let p = err_from_is_err_and c.from-residual.result c.from-residual.ensures.1 in
+    let p = err_from_is_err_and c.from_residual.result c.from_residual.ensures.1 in
     rw (p.1, p.2) (ap (λ w. reading w (left (standing c.args.reader.now))) (sym c.a_key.ensures) ∙ sym c.in_err-line.ensures.told)
 
 -- src/reading.rt:62:1

@@ -8,7 +8,7 @@ use Rattle.programs.proofs.reading.read_plan.Goals as goal
 -- src/reading.rt:51:16
 pub returns-in_err-line : goal.returns-in_err-line
 returns-in_err-line c =
-    let p = err_from_is_err_and c.from-residual.result c.from-residual.ensures.1 in
+    let p = err_from_is_err_and c.from_residual.result c.from_residual.ensures.1 in
     rw (p.1, p.2) (c.known_plan.result, c.known_plan.ensures.wants, sym c.in_err-line.ensures.told)
 
 -- src/reading.rt:56:9

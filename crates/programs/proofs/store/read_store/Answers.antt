@@ -35,7 +35,7 @@ read_block-requires c = record {
 -- src/store.rt:54:5
 pub returns-in_err-read_block : goal.returns-in_err-read_block
 returns-in_err-read_block c =
-    let p = err_from_is_err_and c.from-residual-in_err-read_block.result c.from-residual-in_err-read_block.ensures.1 in
+    let p = err_from_is_err_and c.from_residual-in_err-read_block.result c.from_residual-in_err-read_block.ensures.1 in
     let key = spelled c.in-Ok.head.key.digits.now in
     let mid = left (standing c.read_key.new.reader) in
     let pushed : vec_items c.push_part.new.numbers ≡ key = c.in_ok-push_part.ensures ∙ ap (λ l. l ++ key) c.requires.empty in

@@ -9,7 +9,7 @@ use Rattle.slot.proofs.card.read_line.Goals as goal
 
 pub returns-in_err-line : goal.returns-in_err-line
 returns-in_err-line c =
-    let p = err_from_is_err_and c.from-residual-in_err-line.result c.from-residual-in_err-line.ensures.1 in
+    let p = err_from_is_err_and c.from_residual-in_err-line.result c.from_residual-in_err-line.ensures.1 in
     let s = standing c.in_ok-reader.reader in
     let o = c.in_ok-reader.ensures in
     let b = c.in_err-line.ensures in
@@ -21,7 +21,7 @@ returns-in_err-line c =
 
 pub returns-in_err-end : goal.returns-in_err-end
 returns-in_err-end c =
-    let p = err_from_is_err_and c.from-residual-in_err-end.result c.from-residual-in_err-end.ensures.1 in
+    let p = err_from_is_err_and c.from_residual-in_err-end.result c.from_residual-in_err-end.ensures.1 in
     let s = standing c.in_ok-reader.reader in
     let o = c.in_ok-reader.ensures in
     let a = c.in_ok-line.ensures in

@@ -43,8 +43,8 @@ returns-in_err-open g c =
     let after = c.open.new.key in
     let size = length c.args.workspace.now in
     let inner = Err c.in_err-open.field-0.0 in
-    let up = err_from_is_err_and c.from-residual.result c.from-residual.ensures.1 in
-    let is : raised inner ≡ c.from-residual.result = sym (up.1 ∙ ap Err up.2) in
+    let up = err_from_is_err_and c.from_residual.result c.from_residual.ensures.1 in
+    let is : raised inner ≡ c.from_residual.result = sym (up.1 ∙ ap Err up.2) in
     record {
       answer =
           subst (Unlocked o p s key after size) is
