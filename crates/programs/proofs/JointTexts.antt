@@ -20,7 +20,6 @@ use Rattle.lines.specs.declared.kind.Kind.TheVariants as kind
 use Rattle.programs.specs.Answers.{Answer, granted, output}
 use Rattle.programs.specs.Answers.Answer.{Grants}
 use Rattle.programs.specs.Dealing.{Dealing, Dealt, Examined, cards_text}
-use Rattle.programs.specs.Dealing.Dealing.{planned, unplanned}
 use Rattle.programs.specs.Dealing.Dealt.{all_cards, more_text, unbegun, unkeyed}
 use Rattle.programs.specs.Dealing.Examined.{unvetted, vetted}
 use Rattle.programs.specs.Joint.{front, line_at}
@@ -32,6 +31,8 @@ use Rattle.programs.specs.Vetting.{Passed, Unvetted}
 use Rattle.programs.specs.Vetting.Unvetted.{not_admitted, not_vetted}
 use Rattle.programs.proofs.JointLines.{Modest, first-written, front-written, line_behind, lines_most}
 use Rattle.programs.proofs.OnlyPlan.{plan_lines_only, planned_not_unplanned}
+use Rattle.programs.proofs.PlanFirst.{PlanFirst, plan_first}
+use Rattle.programs.proofs.PlanFirst.PlanFirst.{without, after_plan}
 
 -- what is granted is no refusal
 unvetted_refuses : (o : Operations) (p : Plan) (a : Answer) → Unvetted o p a → granted a ≡ false
@@ -65,13 +66,17 @@ module _ (o : Operations) (p : Plan) (line : ℕ) (text cards : List ℕ) where
 
 module _ (known : Known) (t n : ℕ) (rows : List ℕ) where
   -- a text with a plan that is granted
-  pub granted_from : (text cards rest : List ℕ) → PlanLines known t n rows text rest → Dealing text (Grants cards)
+  first_granted : (text cards rest : List ℕ) → PlanLines known t n rows text rest → PlanFirst text (Grants cards)
       → DealtFrom (operations known) (plan_of t n rows) rest cards
-  granted_from text cards rest p (unplanned u) = absurd (planned_not_unplanned text known t n rows rest (Grants cards) p u)
-  granted_from text cards rest p (planned known' s m rows' less q e) =
+  first_granted text cards rest p (without u) = absurd (planned_not_unplanned text known t n rows rest (Grants cards) p u)
+  first_granted text cards rest p (after_plan known' s m rows' less q e) =
       let same = plan_lines_only text known' known s m t n rows' rows less rest q p in
       transport (λ i. DealtFrom (operations (same.0 i)) (plan_of (same.1 i) (same.2 i) (same.3 i)) (same.4 i) cards)
       (examined_from (operations known') (plan_of s m rows') (1 + (m - s)) less cards (Grants cards) refl e)
+
+  pub granted_from : (text cards rest : List ℕ) → PlanLines known t n rows text rest → Dealing text (Grants cards)
+      → DealtFrom (operations known) (plan_of t n rows) rest cards
+  granted_from text cards rest p d = first_granted text cards rest p (plan_first text (Grants cards) d)
 
   abbrev pub plan_contents : List Content
   plan_contents = plan_line (operations known).mark t n ∷ map (data_line kind.Row) (parts (n - t) t rows)

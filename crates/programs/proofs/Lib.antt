@@ -15,5 +15,6 @@ pub mod OnlyDealing
 mod OnlyLines
 pub mod OnlyOpening
 mod OnlyPlan
+pub mod PlanFirst
 mod Turns
 mod Unlatching

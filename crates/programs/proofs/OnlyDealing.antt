@@ -16,7 +16,6 @@ use Rattle.lines.specs.declared.wanted.Wanted.TheVariants as wanted
 use Rattle.programs.specs.Answers.{Answer, at_line, granted, no_line, output}
 use Rattle.programs.specs.Answers.Answer.{Grants, Refuses}
 use Rattle.programs.specs.Dealing.{Dealing, Dealt, Examined, OnlyDealing, Unbegun, cards_text}
-use Rattle.programs.specs.Dealing.Dealing.{planned, unplanned}
 use Rattle.programs.specs.Dealing.Dealt.{all_cards, more_text, unbegun, unkeyed}
 use Rattle.programs.specs.Dealing.Examined.{unvetted, vetted}
 use Rattle.programs.specs.Keys.{KeyLines, Unkeyed}
@@ -26,6 +25,8 @@ use Rattle.programs.specs.Vetting.{Passed}
 use Rattle.programs.proofs.Beginning.{begins}
 use Rattle.programs.proofs.OnlyLines.{Reads, block_only, block_whole, broken_only, reads_fault, reads_only, reads_written}
 use Rattle.programs.proofs.OnlyPlan.{passed_not_unvetted, plan_lines_only, planned_not_unplanned, unplanned_only, unvetted_only}
+use Rattle.programs.proofs.PlanFirst.{PlanFirst, plan_first}
+use Rattle.programs.proofs.PlanFirst.PlanFirst.{without, after_plan}
 
 key_reads : (mark : ℕ) (key text rest : List ℕ) → KeyHead mark key text rest → Reads wanted.Key text (key_line mark key) rest
 key_reads mark key text rest h =
@@ -131,14 +132,17 @@ module _ (o : Operations) (p : Plan) where
   examined_only line text a b (vetted ok d) (unvetted u) = absurd (passed_not_unvetted o p b ok u)
   examined_only line text a b (vetted ok d) (vetted ok' e) = dealt_only ok line text a b d e
 
-pub dealing_only : (text : List ℕ) (a b : Answer) → Dealing text a → Dealing text b → a ≡ b
-dealing_only text a b (unplanned u) (unplanned v) = unplanned_only text a b u v
-dealing_only text a b (unplanned u) (planned known t n rows rest p e) = absurd (planned_not_unplanned text known t n rows rest a p u)
-dealing_only text a b (planned known t n rows rest p e) (unplanned u) = absurd (planned_not_unplanned text known t n rows rest b p u)
-dealing_only text a b (planned known t n rows rest p e) (planned known' s m rows' less q f) =
+first_only : (text : List ℕ) (a b : Answer) → PlanFirst text a → PlanFirst text b → a ≡ b
+first_only text a b (without u) (without v) = unplanned_only text a b u v
+first_only text a b (without u) (after_plan known t n rows rest p e) = absurd (planned_not_unplanned text known t n rows rest a p u)
+first_only text a b (after_plan known t n rows rest p e) (without u) = absurd (planned_not_unplanned text known t n rows rest b p u)
+first_only text a b (after_plan known t n rows rest p e) (after_plan known' s m rows' less q f) =
     let same = plan_lines_only text known known' t n s m rows rows' rest less p q in
     examined_only (operations known') (plan_of s m rows') (1 + (m - s)) less a b
     (transport (λ i. Examined (operations (same.0 i)) (plan_of (same.1 i) (same.2 i) (same.3 i)) (1 + (same.2 i - same.1 i)) (same.4 i) a) e) f
+
+pub dealing_only : (text : List ℕ) (a b : Answer) → Dealing text a → Dealing text b → a ≡ b
+dealing_only text a b d e = first_only text a b (plan_first text a d) (plan_first text b e)
 
 -- so an answer that is written is the only one
 pub only_dealing : (text : List ℕ) (a : Answer) (bytes : List ℕ) (flag : Bool) → Dealing text a → bytes ≡ output a → flag ≡ granted a → OnlyDealing text bytes flag

@@ -11,13 +11,13 @@ use Rattle.lines.specs.Readers.{longest_text}
 use Rattle.programs.specs.Answers.{Answer, granted, no_line, output}
 use Rattle.programs.specs.Answers.Answer.{Grants, Refuses}
 use Rattle.programs.specs.Dealing.{Dealing, cards_text}
-use Rattle.programs.specs.Dealing.Dealing.{planned}
 use Rattle.programs.specs.Dealing.Dealt.{all_cards}
 use Rattle.programs.specs.Dealing.Examined.{unvetted, vetted}
 use Rattle.programs.specs.Keys.{KeyLines}
 use Rattle.programs.specs.Planning.{PlanLines}
 use Rattle.programs.specs.Vetting.Unvetted.{not_vetted}
 use Rattle.programs.proofs.OnlyDealing.{only_dealing}
+use Rattle.programs.proofs.PlanFirst.{dealing_planned}
 use Rattle.worked.specs.Cases.{Holds, Run, deal_plan, dealt_cards, lined, telling_plan, worked_dealings}
 use Rattle.worked.specs.Cases as cases
 use Rattle.worked.specs.Cases.Case.{dealing}
@@ -62,7 +62,7 @@ cards_dealt : Holds (dealing dealt_cards)
 unfolding all_below sum times reduce
 cards_dealt =
     run_holds dealt_cards (Grants (cards_text (operations Bytes) deal_plan 42 2 (store 2 2 (0x12 ∷ 0x34 ∷ []) (0xA0 ∷ 0x0B ∷ []))))
-    (planned Bytes 2 3 deal_plan.rows key_text dealt-plan
+    (dealing_planned _ _ Bytes 2 3 deal_plan.rows key_text dealt-plan
     (vetted deal_passed
     (all_cards 42 (0x12 ∷ 0x34 ∷ []) (0xA0 ∷ 0x0B ∷ []) dealt_key
     (record { some = lit≤ tt; most = lit≤ tt; key_of = (refl, codes_by (operations Bytes) (0x12 ∷ 0x34 ∷ []) refl); dummies_of = (refl, codes_by (operations Bytes) (0xA0 ∷ 0x0B ∷ []) refl) }) refl))) refl refl
@@ -70,7 +70,7 @@ cards_dealt =
 plan-refused : Holds (dealing cases.not_vetted)
 plan-refused =
     run_holds cases.not_vetted (Refuses 0x16 5 no_line)
-    (planned Bytes 3 4 telling_plan.rows []
+    (dealing_planned _ _ Bytes 3 4 telling_plan.rows []
     (record {
       short = lit≤ tt;
       middle = lined ("02 010101" ∷ []);

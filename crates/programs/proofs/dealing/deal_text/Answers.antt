@@ -9,17 +9,17 @@ use Rattle.lines.specs.Readers.{left, standing}
 use Rattle.programs.specs.Answers.{Answer}
 use Rattle.programs.specs.Answers.Answer.{Grants}
 use Rattle.programs.specs.Dealing.{Dealing, Examined}
-use Rattle.programs.specs.Dealing.Dealing.{planned, unplanned}
 use Rattle.programs.specs.Planning.{Unplanned}
 use Rattle.programs.proofs.Chain.{in_field, plan_lines_shorter, tells_more}
 use Rattle.programs.proofs.Heads.{stops_more}
+use Rattle.programs.proofs.PlanFirst.{dealing_planned, dealing_unplanned}
 use Rattle.programs.proofs.dealing.deal_text.Goals as goal
 
 pub returns-in_err-plan : goal.returns-in_err-plan
 returns-in_err-plan c =
     let p = err_from_is_err_and c.from_residual.result c.from_residual.ensures.1 in
     rw (p.1, p.2)
-    (stops_more _ (λ a. Unplanned c.args.text.now a) (λ a. Dealing c.args.text.now a) (λ a u. unplanned u) c.in_err-plan.ensures)
+    (stops_more _ (λ a. Unplanned c.args.text.now a) (λ a. Dealing c.args.text.now a) (dealing_unplanned c.args.text.now) c.in_err-plan.ensures)
 
 pub deal_plan-requires : goal.deal_plan-requires
 deal_plan-requires c =
@@ -37,7 +37,7 @@ returns-in-Bytes c =
     let whole = λ (a : Answer). in_field (λ o r. Examined o (plan_of x.plan.t x.plan.n r) (1 + (x.plan.n - x.plan.t)) rest a) x.plan.known Bytes c.deref.result.now
     (vec_items x.rows) c.in-Bytes.is c.deref.ensures.value in
     let all : (a : Answer) → Examined (operations x.plan.known) (plan_of x.plan.t x.plan.n (vec_items x.rows)) (1 + (x.plan.n - x.plan.t)) rest a → Dealing c.args.text.now a =
-    λ a e. planned x.plan.known x.plan.t x.plan.n (vec_items x.rows) rest c.in_ok-plan.ensures e in
+    λ a e. dealing_planned c.args.text.now a x.plan.known x.plan.t x.plan.n (vec_items x.rows) rest c.in_ok-plan.ensures e in
     tells_more c.deal_plan.result _ (λ s. Dealing c.args.text.now (Grants (string_bytes s))) _ (λ a. Dealing c.args.text.now a)
     (λ s e. all (Grants (string_bytes s)) (whole (Grants (string_bytes s)) e)) (λ a e. all a (whole a e)) c.deal_plan.ensures
 
@@ -57,6 +57,6 @@ returns c =
     let whole = λ (a : Answer). in_field (λ o r. Examined o (plan_of x.plan.t x.plan.n r) (1 + (x.plan.n - x.plan.t)) rest a) x.plan.known Modulo97 c.deref-in-Modulo97.result.now
     (vec_items x.rows) c.in-Modulo97.is c.deref-in-Modulo97.ensures.value in
     let all : (a : Answer) → Examined (operations x.plan.known) (plan_of x.plan.t x.plan.n (vec_items x.rows)) (1 + (x.plan.n - x.plan.t)) rest a → Dealing c.args.text.now a =
-    λ a e. planned x.plan.known x.plan.t x.plan.n (vec_items x.rows) rest c.in_ok-plan.ensures e in
+    λ a e. dealing_planned c.args.text.now a x.plan.known x.plan.t x.plan.n (vec_items x.rows) rest c.in_ok-plan.ensures e in
     tells_more c.deal_plan-in-Modulo97.result _ (λ s. Dealing c.args.text.now (Grants (string_bytes s))) _ (λ a. Dealing c.args.text.now a)
     (λ s e. all (Grants (string_bytes s)) (whole (Grants (string_bytes s)) e)) (λ a e. all a (whole a e)) c.deal_plan-in-Modulo97.ensures

@@ -6,12 +6,12 @@ use Rattle.programs.specs.Answers.{Refusing, Says}
 use Rattle.programs.specs.Answers.Answer.{Grants, Refuses}
 use Rattle.programs.proofs.output.say.Goals as goal
 
-pub returns-in_ok-put_line : goal.returns-in_ok-put_line
-returns-in_ok-put_line c =
+pub returns-in_ok-put_line-in-Refused : goal.returns-in_ok-put_line-in-Refused
+returns-in_ok-put_line-in-Refused c =
     let n = c.in-Refused.notice in
     let a = Refuses n.number n.carries n.line in
     let is =
-    c.in_ok-put_line.ensures
+    c.in_ok-put_line-in-Refused.ensures
     ∙ ap (λ l. l ++ written (entered c.refusal_entry.result)) c.new-text.ensures.bytes
     ∙ ap written c.refusal_entry.ensures in
     (a, subst (λ r. Says string_bytes r a) (sym c.in-Err.is) (subst (λ s. Refusing s a) (sym c.in-Refused.is) refl), is, refl)

@@ -20,7 +20,7 @@ loop-i-preserved c =
     let inv = c.loop-i.invariant in
     let plain = plain_line w c.requires.plain l r.kept in (
       inv.0 ++ ys,
-      c.in_ok-push_data.ensures
+      c.in_ok-push_data-in-Ok.ensures
           ∙ ap (λ v. v ++ ys) inv.1
           ∙ append_assoc (vec_items c.args.numbers.now) inv.0 ys,
       block_more (kind_of w) (width w) c.loop-i.i (left (standing c.args.reader.now)) inv.0 mid ys rest inv.2 plain.1 plain.2

@@ -13,8 +13,8 @@ loop-i-init c =
 pub loop-i-preserved : goal.loop-i-preserved
 loop-i-preserved c =
     let e = vec_items c.args.numbers.now in
-    let n = c.loop-i.-i - c.len-size.result in
-    let z : n + 1 ≡ (c.loop-i.-i + 1) - c.len-size.result = omega arith in
+    let n = c.loop-i._i - c.len-size.result in
+    let z : n + 1 ≡ (c.loop-i._i + 1) - c.len-size.result = omega arith in
     c.in_ok-push.ensures.items
     ∙ ap (λ v. v ++ (0 ∷ [])) c.loop-i.invariant
     ∙ append_assoc e (replicate n 0) (0 ∷ [])
@@ -27,7 +27,7 @@ returns c =
     let s = c.len-size.result in
     let w = c.from-t.result in
     let size : s ≡ length e = c.len-size.ensures ∙ c.args.numbers.now.ok.0 in
-    let full : c.loop-i.-i ≡ w * ((s + (w - 1)) / w) = omega (arith, lanes_enough w s (omega (arith, c.from-t.ensures))) in
+    let full : c.loop-i._i ≡ w * ((s + (w - 1)) / w) = omega (arith, lanes_enough w s (omega (arith, c.from-t.ensures))) in
     c.loop-i.invariant
     ∙ ap (λ i. e ++ replicate (i - s) 0) full
     ∙ (λ k. e ++ replicate (c.from-t.ensures k * ((size k + (c.from-t.ensures k - 1)) / c.from-t.ensures k) - size k) 0)
