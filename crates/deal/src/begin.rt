@@ -12,9 +12,9 @@ ghost use Rattle.deal.specs.Onlooker.{Begun};
 use crate::deal::Deal;
 use crate::fit::begin_fault;
 use crate::state::{CardState, MOST_CARDS, Mark, State};
-use plan_check::plan::{Checked, Vetted};
 use field::Field;
 use field::refusal::Refusal;
+use plan_check::plan::{Checked, Vetted};
 
 // Makes a new deal of a key of `len` numbers from a vetted plan and a store: the padded key, then the dummy keys. For a deal
 // that it grants, the law of accounts and the law of the onlooker stand.

@@ -6,9 +6,9 @@ ghost use Rattle.plan_check.specs.Faults.{listed};
 ghost use Rattle.deal.specs.Faults.{store_rules, stray_padding, begin_rules};
 
 use crate::casting::lane_count;
-use plan_check::fault::{first_no_code, plan_fault};
 use field::Field;
 use field::refusal::Refusal;
+use plan_check::fault::{first_no_code, plan_fault};
 
 // The first fault of a store: its length, then a byte that is no code.
 pub(crate) fn store_fault<F: Field>(t: u8, len: u8, store: &[u8]) -> Option<Refusal>

@@ -8,10 +8,10 @@ use crate::casting::{lane_count, write_card};
 use crate::deal::Deal;
 use crate::fit::store_fault;
 use crate::state::Blank;
-use plan_check::fault::plan_fault;
-use plan_check::plan::{Checked, Vetted};
 use field::Field;
 use field::refusal::Refusal;
+use plan_check::fault::plan_fault;
+use plan_check::plan::{Checked, Vetted};
 
 impl Deal {
     // Whether the plan is another than the deal's by its t or n, or the plan's rows or the store do not fit the field.

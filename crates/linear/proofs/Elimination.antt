@@ -5,12 +5,10 @@
 --   reached_null    no pivot in column k: a vector with 1 at k and 0 after it is sent to 0
 --   reached_more    a pivot's step: one column more
 --   alternative     all columns done or a vector that is sent to 0, for every square matrix
-use Rattle.std.proofs.Common.{◌≡◌, ℕ, zero, suc, ◌+◌, ◌-◌, ◌<◌, ◌≤◌, cond, eqb, ltb, ◌≢◌, ◌⊎◌, sym, refl, ap, ◌∙◌, ap₂, inl, inr, ⊎_elim, arith}
-use mathlib.Core.Path.{fun_ext}
-use Rattle.std.proofs.lemmas.Bool.{eq-eqb, ne_eqb, lt-ltb, le-ltb, cases_eq, cases_lt, cond-true, cond-false}
+use Rattle.std.proofs.Common.{◌≡◌, ℕ, zero, suc, ◌+◌, ◌-◌, ◌<◌, ◌≤◌, cond, ltb, ◌≢◌, ◌⊎◌, sym, refl, ap, ◌∙◌, ap₂, inl, inr, ⊎_elim, arith}
+use Rattle.std.proofs.lemmas.Bool.{lt-ltb, le-ltb, cases_eq, cases_lt, cond-true, cond-false}
 use Rattle.linear.specs.Pivots.{swapped}
-use Rattle.linear.proofs.Swaps.{swapped_second, swapped_other, swapped_below, swapped_back}
-use Rattle.linear.proofs.Scalars.{Scalars, neg_add, add_cancel, add_middle, mul_nil, nil_mul, one_mul, mul_left_comm, mul_cancel}
+use Rattle.linear.proofs.Scalars.{Scalars, neg_add, mul_nil, nil_mul, one_mul}
 use Rattle.linear.proofs.Sums.{total, unit, total_more, total_cong, total_nil, total_split, total_one, unit_same, unit_other, total_pick}
 use Rattle.linear.proofs.Faithful.{Faithful, faithful_id, faithful_after, faithful_nil, faithful_times}
 use Rattle.linear.proofs.Pivoting.{pivoted, pivoted_faithful, pivoted_keeps, pivoted_clears}

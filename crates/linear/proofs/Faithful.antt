@@ -1,12 +1,9 @@
 -- Maps on columns of n numbers that lose nothing. Assumes nothing.
 --   Faithful   a map that keeps sums and multiples, and tells different columns apart
-use Rattle.std.proofs.Common.{◌≡◌, ℕ, zero, suc, ◌+◌, ◌-◌, ◌<◌, ◌≤◌, cond, eqb, ltb, ◌≢◌, ◌⊎◌, sym, refl, ap, ◌∙◌, ap₂, inl, inr, ⊎_elim, arith}
+use Rattle.std.proofs.Common.{◌≡◌, ℕ, zero, suc, ◌<◌, sym, refl, ap, ◌∙◌, ap₂}
 use mathlib.Core.Path.{fun_ext}
-use Rattle.std.proofs.lemmas.Bool.{eq-eqb, ne_eqb, lt-ltb, le-ltb, cases_eq, cases_lt, cond-true, cond-false}
-use Rattle.linear.specs.Pivots.{swapped}
-use Rattle.linear.proofs.Swaps.{swapped_second, swapped_other, swapped_below, swapped_back}
-use Rattle.linear.proofs.Scalars.{Scalars, neg_add, add_cancel, add_middle, mul_nil, nil_mul, one_mul, mul_left_comm, mul_cancel}
-use Rattle.linear.proofs.Sums.{total, unit, total_more, total_cong, total_nil, total_split, total_one, unit_same, unit_other, total_pick}
+use Rattle.linear.proofs.Scalars.{Scalars, nil_mul}
+use Rattle.linear.proofs.Sums.{total}
 
 module _ {K : Type 0} (F : Scalars K) where
   -- a map on columns of n numbers that keeps sums and multiples, and tells different columns apart

@@ -1,12 +1,11 @@
 -- A pivot's step on a column, which is a faithful map. Assumes nothing.
 --   pivoted    the column after the step: two rows swapped, the pivot's row scaled, the other rows cleared
-use Rattle.std.proofs.Common.{◌≡◌, ℕ, zero, suc, ◌+◌, ◌-◌, ◌<◌, ◌≤◌, cond, eqb, ltb, ◌≢◌, ◌⊎◌, sym, refl, ap, ◌∙◌, ap₂, inl, inr, ⊎_elim, arith}
-use mathlib.Core.Path.{fun_ext}
-use Rattle.std.proofs.lemmas.Bool.{eq-eqb, ne_eqb, lt-ltb, le-ltb, cases_eq, cases_lt, cond-true, cond-false}
+use Rattle.std.proofs.Common.{◌≡◌, ℕ, ◌<◌, ◌≤◌, cond, eqb, ◌≢◌, sym, refl, ap, ◌∙◌, ap₂, ⊎_elim, arith}
+use Rattle.std.proofs.lemmas.Bool.{eq-eqb, ne_eqb, cases_eq, cond-true, cond-false}
 use Rattle.linear.specs.Pivots.{swapped}
 use Rattle.linear.proofs.Swaps.{swapped_second, swapped_other, swapped_below, swapped_back}
-use Rattle.linear.proofs.Scalars.{Scalars, neg_add, add_cancel, add_middle, mul_nil, nil_mul, one_mul, mul_left_comm, mul_cancel}
-use Rattle.linear.proofs.Sums.{total, unit, total_more, total_cong, total_nil, total_split, total_one, unit_same, unit_other, total_pick}
+use Rattle.linear.proofs.Scalars.{Scalars, add_cancel, add_middle, mul_nil, mul_left_comm, mul_cancel}
+use Rattle.linear.proofs.Sums.{unit, unit_same, unit_other}
 use Rattle.linear.proofs.Faithful.{Faithful}
 
 module _ {K : Type 0} (F : Scalars K) where

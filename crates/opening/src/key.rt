@@ -11,9 +11,9 @@ ghost use Rattle.opening.specs.Words.{first_loose};
 use crate::quorum::Quorum;
 use crate::table::is_among;
 use crate::words::solve_rows;
-use plan_check::guard::clear;
 use field::Field;
 use field::refusal::Refusal;
+use plan_check::guard::clear;
 
 // The group of the cards as a number, bit j for card j.
 fn group_bits(cards: &[u8], n: u8) -> u16

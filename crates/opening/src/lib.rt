@@ -11,11 +11,11 @@ ghost use Rattle.std.specs.Prelude.{◌≡◌, length};
 ghost use Rattle.plan_check.specs.Checks.{cleared};
 ghost use Rattle.opening.specs.Answers.{Answered, OnlyAnswer, GivesBack};
 
-use plan_check::guard::Guard;
-use plan_check::plan::Checked;
 use field::Field;
 use field::refusal::Refusal;
 use key::settle;
+use plan_check::guard::Guard;
+use plan_check::plan::Checked;
 use quorum::Quorum;
 use table::{inputs_fault, lanes};
 

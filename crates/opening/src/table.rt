@@ -6,9 +6,9 @@ ghost use Rattle.sharing.specs.Scheme.{lanes as pieces};
 ghost use Rattle.plan_check.specs.Faults.{listed};
 ghost use Rattle.opening.specs.Tables.{stands, first_beyond, first_twice, data_place, cards_table, data_table, inputs_table};
 
-use plan_check::fault::{first_no_code, plan_fault};
 use field::Field;
 use field::refusal::Refusal;
+use plan_check::fault::{first_no_code, plan_fault};
 
 // Whether a card number is among the first ones, as many as `places`.
 pub(crate) fn is_among(cards: &[u8], places: usize, card: u8) -> bool

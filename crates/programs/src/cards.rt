@@ -11,12 +11,12 @@ ghost use Rattle.programs.specs.Progress.{Ready};
 ghost use Rattle.sharing.specs.Scheme.{card, lanes};
 
 use crate::stop::{Stop, refused};
-use plan_check::plan::{Checked, Vetted};
 use deal::begin::begin;
 use deal::deal::Deal;
 use deal::state::Mark;
 use field::Field;
 use lines::{DealMark, Entry};
+use plan_check::plan::{Checked, Vetted};
 use std::alloc::{AllocError, Global};
 
 // The most numbers that a card has: 64, rounded up to a multiple of at most 8.

@@ -13,12 +13,12 @@ use crate::planning::{PlanText, read_plan_lines};
 use crate::plans::vet_plan;
 use crate::stop::{Stop, excess};
 use crate::store::read_store;
-use plan_check::plan::{Checked, Vetted};
 use field::Field;
 use field::gf97::Gf97;
 use field::gf256::Gf256;
 use field::known::Known;
 use lines::Reader;
+use plan_check::plan::{Checked, Vetted};
 use std::alloc::{AllocError, Global};
 
 // Reads the lines of a key, the first of which has this number, and deals its cards with a vetted plan.

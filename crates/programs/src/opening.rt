@@ -15,12 +15,12 @@ use crate::output::{Output, say};
 use crate::planning::{PlanText, read_plan_lines};
 use crate::plans::{ROOM, admit_plan};
 use crate::stop::{Stop, slot_refused};
-use plan_check::plan::Admitted;
 use field::Field;
 use field::gf97::Gf97;
 use field::gf256::Gf256;
 use field::known::Known;
 use lines::{Entry, NO_LINE, Reader};
+use plan_check::plan::Admitted;
 use slot::slot::Slot;
 use std::alloc::{AllocError, Global};
 

@@ -6,8 +6,8 @@ ghost use Rattle.sharing.specs.Scheme.{plan_of};
 ghost use Rattle.std.specs.Prelude.{◌≡◌, length};
 
 use crate::stop::{Stop, refused};
-use plan_check::plan::{Admitted, Drafted, Vetted};
 use field::Field;
+use plan_check::plan::{Admitted, Drafted, Vetted};
 
 // How many bytes are lent to a check.
 pub(crate) const ROOM: usize = 4096;

@@ -12,7 +12,7 @@ use Rattle.opening.specs.Tables.{room}
 use Rattle.opening.proofs.Deals.{data_codes}
 use Rattle.opening.proofs.Faultless.{Faultless, table_faultless}
 use Rattle.opening.proofs.GivingBack.{gives_back}
-use Rattle.slot.specs.Holdings.{Holding, count}
+use Rattle.slot.specs.Holdings.{Holding}
 use Rattle.slot.specs.Inserts.{held_at}
 use Rattle.slot.specs.Unlocks.{Coded, GivesKey, OnlyUnlocked, Settled, Unlocked, data_held, lowest, no_code_held, other_plan, raised, size_held}
 use Rattle.slot.specs.declared.phase.Heading.{Heading}

@@ -8,8 +8,8 @@ ghost use Rattle.slot.specs.States.{laid, put, taken, emptied};
 use crate::card::Card;
 use crate::memory::State;
 use crate::phase::Event;
-use plan_check::guard::clear;
 use lines::Part;
+use plan_check::guard::clear;
 
 // How many cards are held.
 pub(crate) fn count(held: &[bool]) -> u8

@@ -2,10 +2,10 @@
 use crate::phase::Phase;
 use crate::refusal::SlotRefusal;
 use crate::slot::Slot;
-use plan_check::plan::Drafted;
 use field::Field;
 use field::gf97::Gf97;
 use field::gf256::Gf256;
+use plan_check::plan::Drafted;
 
 // The number of an answer, 0 where nothing is refused.
 fn number(answer: Result<(), SlotRefusal>) -> u8 {

@@ -12,11 +12,11 @@ use crate::phase::Phase;
 use crate::refusal::SlotRefusal;
 use crate::slot::Slot;
 use crate::state::count;
+use field::Field;
+use opening::open;
 use plan_check::fault::plan_fault;
 use plan_check::guard::Guard;
 use plan_check::plan::Checked;
-use field::Field;
-use opening::open;
 
 // How many bytes a workspace has to have.
 const ROOM: usize = 4096;

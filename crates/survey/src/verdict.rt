@@ -1,9 +1,9 @@
 // What the two checks of a plan come to for Cauchy rows.
 ghost use Rattle.survey.specs.Verdicts.{Judged, OnlyVerdict};
 
-use plan_check::plan::Drafted;
 use field::Field;
 use field::rows::{cauchy_rows, within_limits};
+use plan_check::plan::Drafted;
 
 // Room for Cauchy rows: at most 8 rows of at most 8 numbers.
 const NUMBERS: usize = 64;

@@ -2,7 +2,6 @@
 // written as lines and read back, admitted and vetted; then a key is dealt onto five cards.
 #![tactic(auto)]
 
-use plan_check::plan::{Drafted, Vetted};
 use deal::begin::begin;
 use deal::deal::Deal;
 use deal::state::Mark;
@@ -12,6 +11,7 @@ use field::gf256::Gf256;
 use field::refusal::Refusal;
 use field::rows::cauchy_rows;
 use lines::{DealMark, Entry, Line, Reader, Wanted};
+use plan_check::plan::{Drafted, Vetted};
 
 const THRESHOLD: u8 = 3;
 

@@ -1,7 +1,7 @@
 // The cabinet: the written cards go into its slot as the lines that were printed, and three of them open the key.
 use crate::{ROOM, said};
-use plan_check::plan::Vetted;
 use field::Field;
+use plan_check::plan::Vetted;
 use slot::phase::Phase;
 use slot::slot::Slot;
 

@@ -5,7 +5,6 @@
 mod cabinet;
 
 use crate::cabinet::opened;
-use plan_check::plan::{Drafted, Vetted};
 use deal::begin::begin;
 use deal::deal::Deal;
 use deal::state::Mark;
@@ -15,6 +14,7 @@ use field::gf256::Gf256;
 use field::refusal::Refusal;
 use field::rows::cauchy_rows;
 use lines::{DealMark, Entry, Line, Reader, Wanted};
+use plan_check::plan::{Drafted, Vetted};
 
 const THRESHOLD: u8 = 3;
 

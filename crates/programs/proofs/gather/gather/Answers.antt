@@ -1,9 +1,8 @@
 -- Each turn one more card is taken, or one is refused; the last card is handed over with all text that is left.
-use Rattle.std.proofs.Common.{◌≡◌, ◌+◌, ◌-◌, [], length, Some, refl, ap, ◌∙◌, arith, length-drop, length-take}
+use Rattle.std.proofs.Common.{◌≡◌, ◌+◌, [], length, Some, refl, ap, ◌∙◌, arith, length-drop, length-take}
 use Rattle.std.proofs.lemmas.Result.{err_from_is_err_and}
 use Rattle.lines.specs.Lines.{head}
 use Rattle.lines.specs.Readers.{left, standing}
-use Rattle.lines.specs.RoundTrips.{rest}
 use Rattle.lines.proofs.Skipping.{skipped-left}
 use Rattle.slot.specs.Holdings.{holding}
 use Rattle.slot.specs.Inserts.{insert_refusal}
