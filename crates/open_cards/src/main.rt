@@ -3,7 +3,7 @@
 
 use anyhow::anyhow;
 use programs::input::{MOST_BYTES, fill};
-use programs::opening::open_cards;
+use programs::returning::open_cards;
 
 fn main(rt: HostRuntime) -> anyhow::Result<()> {
     let mut text = [0u8; MOST_BYTES];

@@ -5,7 +5,7 @@ mod cards;
 pub mod dealing;
 mod gather;
 pub mod input;
-pub mod opening;
+pub mod returning;
 pub mod output;
 mod planning;
 mod plans;

@@ -4,8 +4,9 @@
 #[cfg(test)]
 mod tests {
     use programs::dealing::deal_cards;
-    use programs::opening::open_cards;
+    use programs::returning::open_cards;
     use programs::output::Output;
+    use std::alloc::AllocGlobal;
     use std::process::Abort;
     use std::test::*;
 
@@ -22,24 +23,29 @@ mod tests {
     }
 
     // A program refused with the line wanted.
-    fn refuses(output: Output, wanted: &str) -> Result<(), Fail> {
-        assert!(!output.granted);
-        assert_eq!(output.text.as_str(), wanted);
+    fn refuses(rt: &impl Abort, output: Output, wanted: &str) -> Result<(), Fail> {
+        assert!(rt; !output.granted);
+        assert_eq!(rt; output.text.as_str(), wanted);
         Ok(())
     }
 
     // What the dealing program refuses a text with.
-    fn undealt(rt: &HostRuntime, text: &[u8], wanted: &str) -> Result<(), Fail> {
-        refuses(deal_cards(rt.alloc(), text)?, wanted)
+    fn undealt(rt: &(impl Abort + AllocGlobal), text: &[u8], wanted: &str) -> Result<(), Fail> {
+        refuses(rt, deal_cards(rt.alloc(), text)?, wanted)
     }
 
     // What the opening program refuses a text with.
-    fn unopened(rt: &HostRuntime, text: &[u8], wanted: &str) -> Result<(), Fail> {
-        refuses(open_cards(rt.alloc(), text)?, wanted)
+    fn unopened(rt: &(impl Abort + AllocGlobal), text: &[u8], wanted: &str) -> Result<(), Fail> {
+        refuses(rt, open_cards(rt.alloc(), text)?, wanted)
     }
 
     // What it refuses two cards with, in lines 2 and 3.
-    fn two_unopened(rt: &HostRuntime, first: &str, second: &str, wanted: &str) -> Result<(), Fail> {
+    fn two_unopened(
+        rt: &(impl Abort + AllocGlobal),
+        first: &str,
+        second: &str,
+        wanted: &str,
+    ) -> Result<(), Fail> {
         let text = format!(in rt.alloc(); "01 01 02 03\n02 8DF6\n{first}\n{second}\n")?;
         unopened(rt, text.as_bytes(), wanted)
     }

@@ -45,8 +45,8 @@ impl<F: Field> Slot<F> {
     pub fn heading(&self) -> Option<Heading>
         ensures { result ≡ (holding self.now.state).first }
     {
-        let phase = self.state.phase;
-        match phase {
+        let held = self.state.phase;
+        match held {
             Phase::Empty => None,
             Phase::Gathering(heading) | Phase::Ready(heading) => Some(heading),
         }

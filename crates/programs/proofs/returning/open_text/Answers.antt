@@ -13,7 +13,7 @@ use Rattle.programs.specs.Opening.Opening.{planned, unplanned}
 use Rattle.programs.specs.Planning.{Unplanned}
 use Rattle.programs.proofs.Chain.{in_field, plan_lines_shorter, tells_more}
 use Rattle.programs.proofs.Heads.{stops_more}
-use Rattle.programs.proofs.opening.open_text.Goals as goal
+use Rattle.programs.proofs.returning.open_text.Goals as goal
 
 pub returns-in_err-plan : goal.returns-in_err-plan
 returns-in_err-plan c =

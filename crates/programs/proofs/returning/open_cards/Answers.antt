@@ -8,7 +8,7 @@ use Rattle.programs.specs.Opening.{Opening}
 use Rattle.programs.proofs.Chain.{said}
 use Rattle.programs.proofs.Joint.{given_back}
 use Rattle.programs.proofs.OnlyOpening.{only_opening}
-use Rattle.programs.proofs.opening.open_cards.Goals as goal
+use Rattle.programs.proofs.returning.open_cards.Goals as goal
 
 pub returns : goal.returns
 returns c =

@@ -7,7 +7,7 @@ use Rattle.slot.specs.Holdings.{holding}
 use Rattle.lines.specs.Writing.{written}
 use Rattle.programs.specs.Texts.{key_line}
 use Rattle.programs.proofs.Unlatching.{size_most, told_key, told_refusal, unlock_short, zeros_part}
-use Rattle.programs.proofs.opening.open_slot.Goals as goal
+use Rattle.programs.proofs.returning.open_slot.Goals as goal
 
 pub slot_refused-requires : goal.slot_refused-requires
 slot_refused-requires g c =

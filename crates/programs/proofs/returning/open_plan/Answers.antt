@@ -11,7 +11,7 @@ use Rattle.programs.specs.Opening.Tried.{gathered, ungathered}
 use Rattle.programs.proofs.Chain.{tells_more}
 use Rattle.programs.proofs.Heads.{stops_more}
 use Rattle.programs.proofs.Inserting.{taken-first}
-use Rattle.programs.proofs.opening.open_plan.Goals as goal
+use Rattle.programs.proofs.returning.open_plan.Goals as goal
 
 pub returns-in_err-gather : goal.returns-in_err-gather
 returns-in_err-gather g c =
