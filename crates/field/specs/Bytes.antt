@@ -11,7 +11,7 @@ use Rattle.field.specs.Polynomials.{times, reduce, remainder, OnlyRemainder, gf2
 use Rattle.field.specs.Every.{every, every_at}
 use Rattle.field.specs.GuardLemmas.{OnCodes, guarded_laws, both_codes}
 use Rattle.field.specs.Linear.{Linear, linear_same, linear_then, linear_shl, linear_agree, linear_zero}
-use Rattle.field.specs.PolynomialsLemmas.{times-left, times-right, times_below, reduce_linear, reduce_below, only_remainder}
+use Rattle.field.specs.PolynomialsLemmas.{times-left, times_right, times_below, reduce_linear, reduce_below, only_remainder}
 
 -- the product of two bytes
 abbrev pub by : ℕ → ℕ → ℕ
@@ -21,7 +21,7 @@ by_left : (b : ℕ) → Linear (λ a. by a b)
 by_left b = linear_then (times-left 8 b) (reduce_linear 7)
 
 by_right : (a : ℕ) → Linear (by a)
-by_right a = linear_then (times-right 8 a) (reduce_linear 7)
+by_right a = linear_then (times_right 8 a) (reduce_linear 7)
 
 pub by_code : (a b : ℕ) → a < 256 → by a b < 256
 by_code a b h = reduce_below 7 (times 8 a b) (times_below 8 7 a b h)

@@ -15,11 +15,11 @@ unfolding times
 times-left zero b = record { keeps = λ x y. refl }
 times-left (suc k) b = linear_xor (linear_kept (b % 2) (mod-lt b (omega arith))) (linear_then (times-left k (b / 2)) (linear_shl 1))
 
-pub times-right : (k a : ℕ) → Linear (λ b. times k a b)
+pub times_right : (k a : ℕ) → Linear (λ b. times k a b)
 unfolding times
-times-right zero a = record { keeps = λ x y. refl }
-times-right (suc k) a =
-    linear_xor (linear_chosen a) (linear_then (linear_then (linear_shr 1) (times-right k a)) (linear_shl 1))
+times_right zero a = record { keeps = λ x y. refl }
+times_right (suc k) a =
+    linear_xor (linear_chosen a) (linear_then (linear_then (linear_shr 1) (times_right k a)) (linear_shl 1))
 
 times_step : (k a b : ℕ) → times (suc k) a b ≡ bit_xor (a * (b % 2)) (times k a (b / 2) * 2)
 unfolding times
@@ -54,7 +54,7 @@ times_below n (suc k) a b h =
 
 -- the coefficients past the degree do not count
 times-wide : (j k a m : ℕ) → times (j + k) a (m % 2 ^ k) ≡ times k a m
-times-wide j zero a m = ap (times (j + 0) a) (mod-one m) ∙ linear_zero (times-right (j + 0) a) ∙ sym (times_none a m)
+times-wide j zero a m = ap (times (j + 0) a) (mod-one m) ∙ linear_zero (times_right (j + 0) a) ∙ sym (times_none a m)
 times-wide j (suc k) a m =
     ap (λ w. times w a (m % 2 ^ suc k)) (add-suc j k)
     ∙ times_step (j + k) a (m % 2 ^ suc k)
@@ -125,7 +125,7 @@ multiple_xor d e (k, m, p) (j, n, q) = (
   j + k,
   bit_xor (m % 2 ^ k) (n % 2 ^ j),
   ap₂ bit_xor (p ∙ sym (times-wide j k 0x11B m)) (q ∙ sym (times-wide k j 0x11B n) ∙ ap (λ w. times w 0x11B (n % 2 ^ j)) (add_comm k j))
-      ∙ sym ((times-right (j + k) 0x11B).keeps (m % 2 ^ k) (n % 2 ^ j)),
+      ∙ sym ((times_right (j + k) 0x11B).keeps (m % 2 ^ k) (n % 2 ^ j)),
 )
 
 -- p and its remainder differ by a multiple

@@ -1,7 +1,7 @@
 -- Digits, bytes and numbers, there and back. Assumes nothing.
 use Rattle.std.proofs.Common.{◌≡◌, ℕ, zero, suc, ◌+◌, ◌*◌, ◌/◌, ◌%◌, ◌^◌, ◌<◌, ◌≤◌, true, List, [], ◌∷◌, ◌++◌, length, get_or, take, sym, refl, ap, ◌∙◌, pow-suc, arith}
 use native.Mathlib.Nat.{pow-le-pow_right}
-use Rattle.std.specs.List.{AllByRecursion as All}
+use Rattle.std.specs.List.{AllByRecursion}
 use Rattle.std.specs.Int.Digits.{AllBelowBase}
 use Rattle.std.proofs.lemmas.Int.Digits.{number_lt, number_push}
 use Rattle.std.proofs.ByRecursion.{All-push, All-take, All-get_or}
@@ -66,7 +66,7 @@ spelled-hex (b ∷ bs) u =
     λ i. e i ∷ spelled-hex bs u.1 i
 
 -- digits in pairs are what their bytes are written as
-pub hex-spelled : (ds : List ℕ) → All (λ d. is_digit d ≡ true) ds → length ds % 2 ≡ 0 → hex (spelled ds) ≡ ds
+pub hex-spelled : (ds : List ℕ) → AllByRecursion (λ d. is_digit d ≡ true) ds → length ds % 2 ≡ 0 → hex (spelled ds) ≡ ds
 hex-spelled [] u e = refl
 hex-spelled (a ∷ []) u e = absurd (omega arith)
 hex-spelled (a ∷ b ∷ ds) u e =

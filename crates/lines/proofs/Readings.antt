@@ -1,6 +1,6 @@
 -- What follows once reading gave a line, or a fault. Assumes nothing.
 use Rattle.std.proofs.Common.{◌≡◌, ℕ, ◌≤◌, Bool, true, false, cond, not, eqb, ltb, List, [], ◌∷◌, length, Some, None, Ok, Err, Option, sym, refl, ap, ◌∙◌, subst, arith, length-take}
-use Rattle.std.specs.List.{prefix_len, AllByRecursion as All}
+use Rattle.std.specs.List.{prefix_len, AllByRecursion}
 use Rattle.std.proofs.lemmas.List.Sums.{prefix_len-le-length}
 use Rattle.std.proofs.lemmas.Bool.{not-false}
 use Rattle.lines.specs.Digits.{passes}
@@ -53,7 +53,7 @@ read_ok w text c e =
     }
 
 -- what every fault of a list keeps to, the first one keeps to
-first_all : (P : Fault → Type 0) (xs : List (Bool × Fault)) (f : Fault) → All (λ x. P x.1) xs → first xs ≡ Some f → P f
+first_all : (P : Fault → Type 0) (xs : List (Bool × Fault)) (f : Fault) → AllByRecursion (λ x. P x.1) xs → first xs ≡ Some f → P f
 first_all P [] f u e = let z : ◌≡◌ {A = ℕ} 0 1 = cc in absurd (omega arith)
 first_all P (x ∷ xs) f u e = go x.0 refl (first_all P xs f u.1)
   where

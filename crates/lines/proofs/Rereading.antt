@@ -1,7 +1,7 @@
 -- Numbers that are written and read again are the same numbers. Assumes nothing.
 use Rattle.std.proofs.Common.{◌≡◌, ℕ, suc, ◌+◌, ◌-◌, ◌*◌, ◌/◌, ◌%◌, ◌^◌, ◌<◌, ◌≤◌, Bool, true, false, cond, not, ◌&&◌, ◌||◌, eqb, ltb, leb, List, [], ◌∷◌, ◌++◌, length, take, drop, None, sym, refl, ap, ◌∙◌, append_assoc, arith, length-append}
 use Rattle.std.specs.Int.Digits.{AllBelowBase}
-use Rattle.std.specs.List.{prefix_len, AllByRecursion as All}
+use Rattle.std.specs.List.{prefix_len, AllByRecursion}
 use Rattle.std.proofs.ByRecursion.{All-append, All-weaker}
 use Rattle.std.proofs.lemmas.List.{drop_at, take_at, drop-drop, nil_from_length}
 use Rattle.std.proofs.lemmas.Bool.{and_from, or_left, or_from, not_from_true, eq-eqb, ne_eqb, le-leb, lt-leb, le-ltb, lt-ltb, ltb-true, ltb-false}
@@ -24,7 +24,7 @@ use Rattle.lines.proofs.Leads.{leading_append, leading_all}
 use Rattle.lines.proofs.Numerals.{is_digit-digit_of, spelled-hex, numeral-wide, under_wide, length-wide}
 
 -- what is written are digits, two a byte
-digits_hex : (bs : List ℕ) → AllBelowBase 256 bs → All (λ d. is_digit d ≡ true) (hex bs)
+digits_hex : (bs : List ℕ) → AllBelowBase 256 bs → AllByRecursion (λ d. is_digit d ≡ true) (hex bs)
 digits_hex [] u = tt
 digits_hex (b ∷ bs) u = (is_digit-digit_of (b / 16) (omega (arith, u.0)), (is_digit-digit_of (b % 16) (omega arith), digits_hex bs u.1))
 
@@ -131,15 +131,15 @@ under_kind Dummy = omega arith
 under_kind Refusal = omega arith
 
 -- all that is written before the closing byte may stand in a line
-sound_digits : (bs : List ℕ) → AllBelowBase 256 bs → All (λ b. passes Sound b ≡ true) (hex bs)
+sound_digits : (bs : List ℕ) → AllBelowBase 256 bs → AllByRecursion (λ b. passes Sound b ≡ true) (hex bs)
 sound_digits bs u = All-weaker (λ d. is_digit d ≡ true) (λ b. passes Sound b ≡ true) (λ b e. or_left (is_digit b) (eqb b space) e) (hex bs) (digits_hex bs u)
 
-sound_fields : (ws vs : List ℕ) → All (λ b. passes Sound b ≡ true) (fields_text ws vs)
+sound_fields : (ws vs : List ℕ) → AllByRecursion (λ b. passes Sound b ≡ true) (fields_text ws vs)
 sound_fields [] vs = tt
 sound_fields (w ∷ ws) [] = tt
 sound_fields (w ∷ ws) (v ∷ vs) = (refl, All-append (λ b. passes Sound b ≡ true) (hex (wide w v)) (fields_text ws vs) (sound_digits (wide w v) (under_wide w v)) (sound_fields ws vs))
 
-sound_data : (d : Bool) (ns : List ℕ) → AllBelowBase 256 ns → All (λ b. passes Sound b ≡ true) (cond d (space ∷ hex ns) [])
+sound_data : (d : Bool) (ns : List ℕ) → AllBelowBase 256 ns → AllByRecursion (λ b. passes Sound b ≡ true) (cond d (space ∷ hex ns) [])
 sound_data false ns u = tt
 sound_data true ns u = (refl, sound_digits ns u)
 
@@ -150,7 +150,7 @@ sound_inline b e = grind (arith, nat_tests)
 abbrev body_of : Kind → List ℕ → List ℕ → List ℕ
 body_of k vs ns = hex (kind_number k ∷ []) ++ (fields_text (widths k) vs ++ data_text k ns)
 
-sound_body : (k : Kind) (vs ns : List ℕ) → AllBelowBase 256 ns → All (λ b. passes Sound b ≡ true) (body_of k vs ns)
+sound_body : (k : Kind) (vs ns : List ℕ) → AllBelowBase 256 ns → AllByRecursion (λ b. passes Sound b ≡ true) (body_of k vs ns)
 sound_body k vs ns u =
     let p = λ (b : ℕ). passes Sound b ≡ true in
     All-append p (hex (kind_number k ∷ [])) (fields_text (widths k) vs ++ data_text k ns) (sound_digits (kind_number k ∷ []) (under_kind k, tt))
@@ -181,7 +181,7 @@ join : (h f d more : List ℕ) (n : ℕ) → (h ++ (f ++ (d ++ (n ∷ [])))) ++ 
 join h f d more n = simp append_assoc
 
 -- a line of such bytes, closed, before other text
-module _ (l more : List ℕ) (sound : All (λ b. passes Sound b ≡ true) l) (long : 0 < length l) where
+module _ (l more : List ℕ) (sound : AllByRecursion (λ b. passes Sound b ≡ true) l) (long : 0 < length l) where
   lead : prefix_len (passes Inline) (l ++ (newline ∷ more)) ≡ length l
   lead =
       let inline = All-weaker (λ b. passes Sound b ≡ true) (λ b. passes Inline b ≡ true) sound_inline l sound in
@@ -211,7 +211,7 @@ rest-written c more u =
     ∙ rest-line (body_of k c.fields c.numbers) more (sound_body k c.fields c.numbers u) (omega arith)
 
 -- a line of the kind and form that are wanted has no fault in its text
-no_text_fault : (k : Kind) (l : List ℕ) → All (λ b. passes Sound b ≡ true) l → of_kind k l ≡ true → formed k l ≡ true → first (text_faults k l) ≡ None
+no_text_fault : (k : Kind) (l : List ℕ) → AllByRecursion (λ b. passes Sound b ≡ true) l → of_kind k l ≡ true → formed k l ≡ true → first (text_faults k l) ≡ None
 no_text_fault k l s e f =
     first_next (ltb (sound_to l) (length l)) (Byte (sound_to l)) ((not (of_kind k l), Unwanted) ∷ (not (formed k l), Shape) ∷ []) (le-ltb (sound_to l) (length l) (omega (arith, leading_all (passes Sound) l s))) ∙
     first_next (not (of_kind k l)) Unwanted ((not (formed k l), Shape) ∷ []) (not_from_true (of_kind k l) e) ∙

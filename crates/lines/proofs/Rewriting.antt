@@ -1,6 +1,6 @@
 -- A line that is read and written again is the same line. Assumes nothing.
 use Rattle.std.proofs.Common.{◌≡◌, ℕ, ◌+◌, ◌-◌, ◌*◌, ◌%◌, ◌<◌, Bool, true, false, cond, ◌&&◌, eqb, ltb, leb, List, [], ◌∷◌, ◌++◌, length, get_or, take, drop, sym, refl, ap, ◌∙◌, append_assoc, arith, length-drop}
-use Rattle.std.specs.List.{prefix_len, AllByRecursion as All}
+use Rattle.std.specs.List.{prefix_len, AllByRecursion}
 use Rattle.std.proofs.lemmas.List.{nil_from_length, drop-drop, drop_more, take-append-drop, length-take-le, take_all}
 use Rattle.std.proofs.lemmas.List.Sums.{prefix_len-le-length}
 use Rattle.std.proofs.lemmas.Bool.{and_parts, or_parts, not-false, eqb-true, leb-true, leb-false, false≢true}
@@ -19,7 +19,7 @@ use Rattle.lines.proofs.Numerals.{hex-spelled, wide-numeral, under_spelled}
 use Rattle.lines.proofs.Spelling.{length-spelled, numeral_single}
 
 -- a space and k digits, taken apart
-spaced-parts : (k : ℕ) (t : List ℕ) → spaced k t ≡ true → (t ≡ space ∷ drop 1 t) × All (λ d. is_digit d ≡ true) (take k (drop 1 t))
+spaced-parts : (k : ℕ) (t : List ℕ) → spaced k t ≡ true → (t ≡ space ∷ drop 1 t) × AllByRecursion (λ d. is_digit d ≡ true) (take k (drop 1 t))
 spaced-parts k [] e = absurd (false≢true e)
 spaced-parts k (x ∷ t) e =
     let q = and_parts (eqb x space) (leb k (prefix_len is_digit t)) e in
@@ -41,7 +41,7 @@ shaped_text [] true t e =
     let odd = eqb-true (length t % 2) 1 (and_parts (ltb 1 (length t)) (eqb (length t % 2) 1) q.1).1 in
     let p = spaced-parts (length t - 1) t q.0 in
     let all : take (length t - 1) (drop 1 t) ≡ drop 1 t = take_all (length t - 1) (drop 1 t) (omega (arith, length-drop 1 t)) in
-    let digits : All (λ d. is_digit d ≡ true) (drop 1 t) = rw all at p.1 in
+    let digits : AllByRecursion (λ d. is_digit d ≡ true) (drop 1 t) = rw all at p.1 in
     ap (λ l. space ∷ l) (hex-spelled (drop 1 t) digits (omega (arith, length-drop 1 t))) ∙ sym p.0
 shaped_text (w ∷ ws) d t e =
     let q = and_parts (spaced (2 * w) t) (shaped ws d (drop (1 + 2 * w) t)) e in

@@ -1,7 +1,7 @@
 -- Lines worked out: what some numbers are written as, and what some texts are read as. Assumes nothing.
 use Rattle.std.specs.Prelude.{◌≡◌, ℕ, List, [], ◌∷◌, ◌++◌, Ok, Err, codes, Result}
 use Prim.Native.String.{String}
-use Rattle.std.specs.List.{AllByRecursion as All}
+use Rattle.std.specs.List.{AllByRecursion}
 use Rattle.lines.specs.Digits.{newline}
 use Rattle.lines.specs.Lines.{Content, reading}
 use Rattle.lines.specs.Writing.{written}
@@ -47,4 +47,4 @@ readings =
 
 -- each is written so, and each is read so
 abbrev pub Worked : Type 0
-Worked = All (λ x. written x.0 ≡ x.1) writings × All (λ x. reading x.0 x.1 ≡ x.2) readings
+Worked = AllByRecursion (λ x. written x.0 ≡ x.1) writings × AllByRecursion (λ x. reading x.0 x.1 ≡ x.2) readings

@@ -1,6 +1,6 @@
 -- What comes of a card line that is handed to the slot, alone or with all text behind it. Assumes nothing.
 use Rattle.std.proofs.Common.{◌≡◌, ℕ, zero, suc, ◌+◌, ◌-◌, ◌<◌, ◌≤◌, Bool, true, false, cond, eqb, List, [], ◌∷◌, length, drop, is_some, Some, None, Ok, Err, Option, Result, sym, refl, ap, ◌∙◌, subst, ⊎_elim, zero-add, add-one, arith, length-take}
-use Rattle.std.specs.List.{AllByRecursion as All}
+use Rattle.std.specs.List.{AllByRecursion}
 use Rattle.std.proofs.lemmas.List.{nil_from_length}
 use Rattle.std.proofs.lemmas.Bool.{le-ltb, ne_eqb, cases_eq}
 use Rattle.field.specs.Codes.{Operations}
@@ -25,7 +25,7 @@ use Rattle.programs.specs.Gathering.{CardHead, Short, Taken, Ungathered, at_card
 use Rattle.programs.specs.Gathering.Ungathered.{more_text, no_card, not_taken}
 
 -- what every refusal of a table keeps to, the foremost one keeps to
-foremost_all : (P : SlotRefusal → Type 0) (xs : List (Bool × SlotRefusal)) (e : SlotRefusal) → All (λ x. P x.1) xs → foremost xs ≡ Some e → P e
+foremost_all : (P : SlotRefusal → Type 0) (xs : List (Bool × SlotRefusal)) (e : SlotRefusal) → AllByRecursion (λ x. P x.1) xs → foremost xs ≡ Some e → P e
 foremost_all P [] e u h = let z : ◌≡◌ {A = ℕ} 0 1 = cc in absurd (omega arith)
 foremost_all P (x ∷ xs) e u h = go x.0 refl (foremost_all P xs e u.1)
   where

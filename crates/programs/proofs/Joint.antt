@@ -1,7 +1,7 @@
 -- The plan's lines and any t cards of a text that was dealt give the key's line of that text back. Assumes nothing.
 use Rattle.std.proofs.Common.{◌≡◌, ℕ, ◌+◌, ◌-◌, ◌<◌, true, List, [], ◌++◌, map, length, get_or, replicate, is_ok, Some, None, Ok, Err, Option, Result, sym, refl, ap, ◌∙◌, subst, arith}
 use mathlib.Core.Path.{transport}
-use Rattle.std.specs.List.{range_with_len, AllByRecursion as All}
+use Rattle.std.specs.List.{range_with_len, AllByRecursion}
 use Rattle.std.proofs.ByRecursion.{All-from_get_or, All-map}
 use Rattle.std.proofs.lemmas.List.{drop_all, length-map, length-replicate}
 use Rattle.std.proofs.lemmas.Bool.{false≢true}
@@ -82,7 +82,7 @@ module _ (known : Known) (t n : ℕ) (rows deal cards more js : List ℕ) (plan 
   some : 0 < length js
   some = omega (arith, count, from.passed.sound.least)
 
-  modest_lines : (xs : List ℕ) → All Modest (map (line source) xs)
+  modest_lines : (xs : List ℕ) → AllByRecursion Modest (map (line source) xs)
   modest_lines xs = All-map Modest (line source) xs (All-from_get_or (λ j. Modest (line source j)) xs 0 (λ i h. modest source (get_or xs i 0)))
 
   -- the text is the plan's lines and these cards

@@ -1,7 +1,7 @@
 -- The lines of a text that was written line by line: its front, one line of it, and lines chosen by number. Assumes nothing.
 --   Modest    a line's data are bytes, and no more than a card has
 use Rattle.std.proofs.Common.{◌≡◌, ℕ, zero, suc, ◌+◌, ◌*◌, ◌<◌, ◌≤◌, List, [], ◌∷◌, ◌++◌, map, length, get_or, sym, refl, ap, ◌∙◌, append_assoc, append-nil, suc-mul, arith, length-append}
-use Rattle.std.specs.List.{range_with_len, AllByRecursion as All}
+use Rattle.std.specs.List.{range_with_len, AllByRecursion}
 use Rattle.std.specs.Int.Digits.{AllBelowBase}
 use Rattle.std.proofs.lemmas.List.FromFn.{get_or-map-range_with_len, length-map-range_with_len}
 use Rattle.std.proofs.lemmas.List.{append_cancel_right, take-append-drop}
@@ -32,25 +32,25 @@ first_lines : (c : Content) (cs : List Content) (more : List ℕ) → Modest c �
 first_lines c cs more m = ap line_text (append_assoc (written c) (text_of cs) more) ∙ first-written c (text_of cs ++ more) m
 
 -- as many lines as were written are what was written
-pub front-written : (cs : List Content) (more : List ℕ) → All Modest cs → front (length cs) (text_of cs ++ more) ≡ text_of cs
+pub front-written : (cs : List Content) (more : List ℕ) → AllByRecursion Modest cs → front (length cs) (text_of cs ++ more) ≡ text_of cs
 front-written [] more u = refl
 front-written (c ∷ cs) more u =
     (λ i. first_lines c cs more u.0 i ++ front (length cs) (rest_lines c cs more u.0 i))
     ∙ ap (λ l. written c ++ l) (front-written cs more u.1)
 
 -- and then comes the line behind them
-pub line_behind : (cs : List Content) (more : List ℕ) → All Modest cs → line_at (length cs) (text_of cs ++ more) ≡ line_text more
+pub line_behind : (cs : List Content) (more : List ℕ) → AllByRecursion Modest cs → line_at (length cs) (text_of cs ++ more) ≡ line_text more
 line_behind [] more u = refl
 line_behind (c ∷ cs) more u = ap (line_at (length cs)) (rest_lines c cs more u.0) ∙ line_behind cs more u.1
 
 -- one of the lines
-line-written : (cs : List Content) (k : ℕ) (d : Content) (more : List ℕ) → All Modest cs → k < length cs → line_at k (text_of cs ++ more) ≡ written (get_or cs k d)
+line-written : (cs : List Content) (k : ℕ) (d : Content) (more : List ℕ) → AllByRecursion Modest cs → k < length cs → line_at k (text_of cs ++ more) ≡ written (get_or cs k d)
 line-written [] k d more u h = absurd (omega arith)
 line-written (c ∷ cs) zero d more u h = first_lines c cs more u.0
 line-written (c ∷ cs) (suc k) d more u h = ap (line_at k) (rest_lines c cs more u.0) ∙ line-written cs k d more u.1 (omega arith)
 
 -- lines chosen from one line for each number below n
-pub chosen-written : (f : ℕ → Content) (n : ℕ) (js : List ℕ) → All Modest (map f (range_with_len 0 n)) → ((m : ℕ) → m < length js → get_or js m 0 < n)
+pub chosen-written : (f : ℕ → Content) (n : ℕ) (js : List ℕ) → AllByRecursion Modest (map f (range_with_len 0 n)) → ((m : ℕ) → m < length js → get_or js m 0 < n)
     → chosen js (text_of (map f (range_with_len 0 n))) ≡ text_of (map f js)
 chosen-written f n [] u below = refl
 chosen-written f n (j ∷ js) u below =
@@ -64,7 +64,7 @@ chosen-written f n (j ∷ js) u below =
     (λ i. one i ++ chosen-written f n js u (λ m h. below (suc m) (omega arith)) i)
 
 -- how long such lines are
-pub lines_most : (cs : List Content) → All Modest cs → length (text_of cs) ≤ length cs * 168
+pub lines_most : (cs : List Content) → AllByRecursion Modest cs → length (text_of cs) ≤ length cs * 168
 lines_most [] u = omega arith
 lines_most (c ∷ cs) u =
     omega (arith, length-append (written c) (text_of cs), written-most c u.0.few, lines_most cs u.1, suc-mul (length cs) 168)

@@ -4,7 +4,7 @@
 use Rattle.std.proofs.Common.{◌≡◌, ℕ, zero, suc, ◌+◌, ◌-◌, ◌<◌, ◌≤◌, false, List, [], ◌∷◌, ◌++◌, map, length, drop, sym, refl, ap, ◌∙◌, append_assoc, one-add, arith, length-append, length-take}
 use mathlib.Core.Path.{transport}
 use Rattle.std.specs.Int.Digits.{AllBelowBase}
-use Rattle.std.specs.List.{AllByRecursion as All}
+use Rattle.std.specs.List.{AllByRecursion}
 use Rattle.std.proofs.ByRecursion.{All-drop, All-take}
 use Rattle.std.proofs.lemmas.List.{length-map}
 use Rattle.std.proofs.lemmas.Bool.{true≢false}
@@ -89,7 +89,7 @@ module _ (known : Known) (t n : ℕ) (rows : List ℕ) where
   plan-length =
       ap suc (length-map (parts (n - t) t rows) (data_line kind.Row) ∙ length-parts (n - t) t rows) ∙ sym (one-add (n - t))
 
-  modest_rows : (k w : ℕ) (xs : List ℕ) → w ≤ 70 → AllBelowBase 256 xs → All Modest (map (data_line kind.Row) (parts k w xs))
+  modest_rows : (k w : ℕ) (xs : List ℕ) → w ≤ 70 → AllBelowBase 256 xs → AllByRecursion Modest (map (data_line kind.Row) (parts k w xs))
   modest_rows zero w xs h u = tt
   modest_rows (suc k) w xs h u = (
     record { bytes = All-take (λ d. d < 256) w xs u; few = omega (arith, h, length-take w xs) },
@@ -97,7 +97,7 @@ module _ (known : Known) (t n : ℕ) (rows : List ℕ) where
   )
 
   module _ (text rest : List ℕ) (plan : PlanLines known t n rows text rest) where
-    plan_modest : All Modest plan_contents
+    plan_modest : AllByRecursion Modest plan_contents
     plan_modest =
         let limits = within-parts t n plan.head.limits in
         (record { bytes = tt; few = omega arith }, modest_rows (n - t) t rows (omega (arith, limits)) plan.rows_are.bytes)
@@ -116,7 +116,7 @@ module _ (known : Known) (t n : ℕ) (rows : List ℕ) where
     plan_behind = (λ i. line_at (sym plan-length i) (plan_is i)) ∙ line_behind plan_contents rest plan_modest
 
     -- at most t lines more make a text with the same plan
-    pub plan_before : (cs : List Content) → All Modest cs → length cs ≤ t
+    pub plan_before : (cs : List Content) → AllByRecursion Modest cs → length cs ≤ t
         → PlanLines known t n rows (text_of plan_contents ++ text_of cs) (text_of cs)
     plan_before cs modest few =
         let limits = within-parts t n plan.head.limits in

@@ -1,6 +1,6 @@
 -- What the opening program makes of the answer of the slot. Assumes nothing.
 use Rattle.std.proofs.Common.{◌≡◌, ℕ, ◌-◌, ◌≤◌, Bool, true, false, cond, ◌&&◌, ◌||◌, ltb, leb, List, [], ◌∷◌, length, take, drop, replicate, Some, None, Ok, Err, Option, Result, sym, refl, ap, ◌∙◌, subst, arith}
-use Rattle.std.specs.List.{AllByRecursion as All}
+use Rattle.std.specs.List.{AllByRecursion}
 use Rattle.std.proofs.lemmas.List.{take-replicate}
 use Rattle.std.proofs.lemmas.Bool.{and_parts, false≢true, leb-true}
 use Rattle.field.specs.Codes.{Operations}
@@ -43,7 +43,7 @@ fault_not_beside Length = refl
 fault_not_beside Excess = refl
 
 -- what every line of a table keeps to, the foremost one keeps to
-rules_all : (P : ℕ → Type 0) (rules : List Rule) (z : ℕ × ℕ) → All (λ r. P r.0) rules → foremost rules ≡ Some z → P z.0
+rules_all : (P : ℕ → Type 0) (rules : List Rule) (z : ℕ × ℕ) → AllByRecursion (λ r. P r.0) rules → foremost rules ≡ Some z → P z.0
 rules_all P [] z u e = let w : ◌≡◌ {A = ℕ} 0 1 = cc in absurd (omega arith)
 rules_all P (r ∷ rules) z u e = go r.1 refl (rules_all P rules z u.1)
   where

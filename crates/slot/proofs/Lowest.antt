@@ -1,7 +1,7 @@
 -- The t lowest cards of a slot that holds t cards or more: their numbers differ and are below n, their data are as long as
 -- those of t cards. Assumes nothing.
 use Rattle.std.proofs.Common.{◌≡◌, ℕ, zero, suc, ◌+◌, ◌*◌, ◌<◌, ◌≤◌, true, List, [], ◌∷◌, ◌++◌, length, get_or, take, is_some, Some, None, unwrap_or, sym, refl, ◌∙◌, subst, ap₂, suc-mul, zero-mul, arith, length-append}
-use Rattle.std.specs.List.{AllByRecursion as All}
+use Rattle.std.specs.List.{AllByRecursion}
 use Rattle.std.proofs.ByRecursion.{All-take}
 use Rattle.std.proofs.lemmas.List.{length-take-le}
 use Rattle.field.specs.Codes.{Operations}
@@ -27,13 +27,13 @@ run_take (suc t) c n [] run = tt
 run_take (suc t) c n (j ∷ g) run = (run.0, run.1, run_take t (suc j) n g run.2)
 
 -- what holds of every card held holds of the numbers
-numbers_all : (P : ℕ → Type 0) (k : ℕ) (cards : Cards) → ((i : ℕ) → is_some (get_or cards i None) ≡ true → P (k + i)) → All P (numbers_held k cards)
+numbers_all : (P : ℕ → Type 0) (k : ℕ) (cards : Cards) → ((i : ℕ) → is_some (get_or cards i None) ≡ true → P (k + i)) → AllByRecursion P (numbers_held k cards)
 numbers_all P k [] each = tt
 numbers_all P k (Some d ∷ cards) each =
     (subst P (omega arith) (each 0 refl), numbers_all P (suc k) cards (λ i e. subst P (omega arith) (each (suc i) e)))
 numbers_all P k (None ∷ cards) each = numbers_all P (suc k) cards (λ i e. subst P (omega arith) (each (suc i) e))
 
-pub lowest_all : (P : ℕ → Type 0) (t : ℕ) (cards : Cards) → ((j : ℕ) → is_some (get_or cards j None) ≡ true → P j) → All P (lowest t cards)
+pub lowest_all : (P : ℕ → Type 0) (t : ℕ) (cards : Cards) → ((j : ℕ) → is_some (get_or cards j None) ≡ true → P j) → AllByRecursion P (lowest t cards)
 lowest_all P t cards each =
     All-take P t (numbers_held 0 cards) (numbers_all P 0 cards (λ i e. subst P (omega arith) (each i e)))
 
@@ -52,7 +52,7 @@ lowest_numbered t n cards enough below =
     }
 
 -- cards of one length
-pub length_data : (cards : Cards) (len : ℕ) (ns : List ℕ) → All (λ j. length (unwrap_or (get_or cards j None) []) ≡ len) ns
+pub length_data : (cards : Cards) (len : ℕ) (ns : List ℕ) → AllByRecursion (λ j. length (unwrap_or (get_or cards j None) []) ≡ len) ns
     → length (data_held cards ns) ≡ length ns * len
 length_data cards len [] each = sym (zero-mul len)
 length_data cards len (j ∷ ns) each =
@@ -61,6 +61,6 @@ length_data cards len (j ∷ ns) each =
 
 -- cards of a store
 pub data_written : (o : Operations) (p : Plan) (b : ℕ) (store : List ℕ) (cards : Cards) (ns : List ℕ)
-    → All (λ j. unwrap_or (get_or cards j None) [] ≡ card o p b store j) ns → data_held cards ns ≡ data_of o p b store ns
+    → AllByRecursion (λ j. unwrap_or (get_or cards j None) [] ≡ card o p b store j) ns → data_held cards ns ≡ data_of o p b store ns
 data_written o p b store cards [] each = refl
 data_written o p b store cards (j ∷ ns) each = ap₂ (λ xs ys. xs ++ ys) each.0 (data_written o p b store cards ns each.1)

@@ -1,6 +1,6 @@
 -- What Open answers to the cards that were worked out. Assumes nothing.
 use Rattle.std.proofs.Common.{◌≡◌, ℕ, ◌+◌, ◌*◌, ◌%◌, ◌<◌, Bool, true, cond, ◌&&◌, eqb, ltb, List, [], ◌∷◌, map, length, get_or, take, is_ok, None, Ok, Err, Result, sym, refl, ◌∙◌, subst, inr, arith}
-use Rattle.std.specs.List.{AllByRecursion as All}
+use Rattle.std.specs.List.{AllByRecursion}
 use Rattle.std.proofs.lemmas.Bool.{and_parts, eqb-true, ltb-true}
 use Rattle.field.specs.Codes.{Operations, Laws, first, sum}
 use Rattle.field.specs.Known.{operations}
@@ -134,5 +134,5 @@ padding-refused : Found loose_padding (Err (KeyPadding 3))
 unfolding first sum times reduce group_test words_test
 padding-refused = found loose_padding (Err (KeyPadding 3)) (0x01 ∷ 0x03 ∷ 0x02 ∷ 0x07 ∷ 0x00 ∷ 0x00 ∷ 0x00 ∷ 0x00 ∷ []) refl (omega arith) refl refl refl refl
 
-pub opened_all : All Holds (map opening worked_openings)
+pub opened_all : AllByRecursion Holds (map opening worked_openings)
 opened_all = (opening_holds opened_deal (Ok tt) deal_opened refl, (opening_holds loose_padding (Err (KeyPadding 3)) padding-refused refl, tt))

@@ -1,6 +1,6 @@
 -- What the checks answer to the plans that were worked out. Assumes nothing.
 use Rattle.std.proofs.Common.{◌≡◌, List, [], ◌∷◌, map, Some, None, refl, lit<}
-use Rattle.std.specs.List.{AllByRecursion as All}
+use Rattle.std.specs.List.{AllByRecursion}
 use Rattle.field.specs.Codes.{first, inverse}
 use Rattle.field.specs.Known.{operations}
 use Rattle.field.specs.Refusals.{foremost}
@@ -94,11 +94,11 @@ abbrev Answers : Check → Type 0
 Answers w = Allowed w.property (operations w.known) w.plan room w.answer
 
 -- an answer that is allowed is the only one
-checks_hold : (ws : List Check) → All Answers ws → All Holds (map check ws)
+checks_hold : (ws : List Check) → AllByRecursion Answers ws → AllByRecursion Holds (map check ws)
 checks_hold [] h = tt
 checks_hold (w ∷ ws) h = ((h.0, only_answer w.property (operations w.known) w.plan room w.answer h.0), checks_hold ws h.1)
 
-pub checked : All Holds (map check worked_checks)
+pub checked : AllByRecursion Holds (map check worked_checks)
 checked =
     checks_hold worked_checks (
       shut_refused Bytes,

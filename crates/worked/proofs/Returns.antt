@@ -1,6 +1,6 @@
 -- What the opening program writes for the texts that were worked out. Assumes nothing.
 use Rattle.std.proofs.Common.{◌≡◌, ℕ, ◌≤◌, List, [], ◌∷◌, ◌++◌, map, length, None, Ok, sym, refl, lit≤}
-use Rattle.std.specs.List.{AllByRecursion as All}
+use Rattle.std.specs.List.{AllByRecursion}
 use Rattle.field.specs.Codes.{Operations, first}
 use Rattle.field.specs.Known.{operations}
 use Rattle.field.specs.declared.known.Known.TheVariants.{Bytes}
@@ -73,5 +73,5 @@ again_returned =
     (gives (text_of (card_2 ∷ card_1 ∷ [])) (lit≤ tt)
     (taken card_2 card_1 (record { reads = refl; is = refl }) (record { reads = refl; is = refl }) refl refl)) refl refl
 
-pub returned_all : All Holds (map returning worked_returns)
+pub returned_all : AllByRecursion Holds (map returning worked_returns)
 returned_all = (key_returned, (again_returned, tt))

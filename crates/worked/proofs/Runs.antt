@@ -1,6 +1,6 @@
 -- What the dealing program writes for the texts that were worked out. Assumes nothing.
 use Rattle.std.proofs.Common.{◌≡◌, ℕ, ◌≤◌, true, ltb, List, [], ◌∷◌, ◌++◌, map, length, get_or, sym, refl, arith, lit≤}
-use Rattle.std.specs.List.{AllByRecursion as All}
+use Rattle.std.specs.List.{AllByRecursion}
 use Rattle.std.proofs.lemmas.Bool.{ltb-true}
 use Rattle.field.specs.Codes.{Operations, sum}
 use Rattle.field.specs.Known.{operations}
@@ -79,5 +79,5 @@ plan-refused =
     })
     (unvetted (not_vetted (0x16, 5) (telling_sound Bytes) (telling_admits Bytes) (telling_refused Bytes) refl))) refl refl
 
-pub dealt_all : All Holds (map dealing worked_dealings)
+pub dealt_all : AllByRecursion Holds (map dealing worked_dealings)
 dealt_all = (cards_dealt, (plan-refused, tt))

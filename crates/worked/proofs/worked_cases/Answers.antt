@@ -1,6 +1,6 @@
 -- Every case holds.
 use Rattle.std.proofs.Common.{◌++◌, map, refl}
-use Rattle.std.specs.List.{AllByRecursion as All}
+use Rattle.std.specs.List.{AllByRecursion}
 use Rattle.std.proofs.ByRecursion.{All-append}
 use Rattle.field.specs.Codes.{sum}
 use Rattle.field.specs.Known.{worked_products}
@@ -14,11 +14,11 @@ use Rattle.worked.proofs.Returns.{returned_all}
 use Rattle.worked.proofs.Runs.{dealt_all}
 use Rattle.worked.proofs.worked_cases.Goals as goal
 
-products : All Holds (map product worked_products)
+products : AllByRecursion Holds (map product worked_products)
 unfolding times reduce
 products = ((refl, tt), ((refl, tt), ((refl, tt), tt)))
 
-deals : All Holds (map cards worked_deals)
+deals : AllByRecursion Holds (map cards worked_deals)
 unfolding sum times reduce
 deals = ((refl, tt), ((refl, tt), ((refl, tt), tt)))
 
