@@ -8,7 +8,8 @@ ghost use Rattle.programs.specs.Dealing.{Dealing, Dealt, Examined, OnlyDealing};
 ghost use Rattle.sharing.specs.Scheme.{plan_of};
 
 use crate::cards::write_cards;
-use crate::output::{Output, say};
+pub use crate::output::Output;
+use crate::output::say;
 use crate::planning::{PlanText, read_plan_lines};
 use crate::plans::vet_plan;
 use crate::stop::{Stop, excess};

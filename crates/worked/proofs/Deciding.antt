@@ -1,13 +1,14 @@
 -- Whether the groups of a plan open or hide, decided by computation: a left inverse that is tried out, or a null vector.
 -- Assumes nothing.
-use Rattle.std.proofs.Common.{◌≡◌, ℕ, zero, suc, ◌+◌, ◌-◌, ◌^◌, ◌<◌, ◌≤◌, Bool, true, false, cond, not, ◌&&◌, eqb, ltb, List, [], ◌∷◌, ◌++◌, map, length, get_or, Some, None, Option, unwrap_or, sym, refl, ap, ◌∙◌, subst, ⊎_elim, arith}
+use Rattle.std.proofs.Common.{◌≡◌, ℕ, zero, suc, ◌+◌, ◌-◌, ◌^◌, ◌<◌, ◌≤◌, Bool, true, false, cond, not, ◌&&◌, ◌||◌, eqb, ltb, List, [], ◌∷◌, ◌++◌, map, length, get_or, Some, None, Option, unwrap_or, sym, refl, ap, ◌∙◌, subst, ⊎_elim, arith}
 use Rattle.std.specs.List.{range_with_len}
-use Rattle.std.proofs.lemmas.Bool.{and_parts, eqb-true, ltb-true, eq-eqb, cases_eq}
+use Rattle.std.proofs.lemmas.Bool.{and_parts, or_cases, eqb-true, ltb-true, eq-eqb, cases_eq}
 use Rattle.field.specs.Codes.{Operations, Laws, sum, first, inverse}
 use Rattle.field.specs.Polynomials.{times, reduce}
 use Rattle.field.specs.Refusals.{foremost}
 use Rattle.sharing.specs.Groups.{Group, bits}
 use Rattle.sharing.specs.Scheme.{Plan, Sound}
+use Rattle.sharing.specs.Secrecy.{Opens, Hides}
 use Rattle.sharing.specs.Systems.{OnlyZero, opening_matrix, hiding_matrix, lane_size}
 use Rattle.sharing.proofs.Hiding.{hides_exactly}
 use Rattle.sharing.proofs.OneWord.{opens_exactly}
@@ -114,6 +115,21 @@ group-passes Opening {o} laws p sound g is e =
 group-passes Hiding {o} laws p sound g is e =
     (hides_exactly laws p g sound is).0.1 (regular_only_zero o laws (lane_size p) (hiding_matrix p g) e)
 
+-- the same of each check alone
+module _ {o : Operations} (laws : Laws o) (p : Plan) (sound : Sound o p) where
+  unfoldable pub opens_test : List ℕ → Bool
+  unfolding regular all_below
+  opens_test g = all_below p.t (λ i. regular o p.t (opening_matrix p g i))
+
+  pub opens_yes : (g : List ℕ) → Group p.n p.t g → opens_test g ≡ true → Opens o p g
+  unfolding opens_test
+  opens_yes g is e =
+      (opens_exactly laws p g sound is).1
+      (λ i h. regular_only_zero o laws p.t (opening_matrix p g i) (all_at p.t (λ k. regular o p.t (opening_matrix p g k)) e i h))
+
+  pub hides_yes : (g : List ℕ) → Group p.n (p.t - 1) g → regular o (lane_size p) (hiding_matrix p g) ≡ true → Hides o p g
+  hides_yes g is e = (hides_exactly laws p g sound is).0.1 (regular_only_zero o laws (lane_size p) (hiding_matrix p g) e)
+
 -- every group among the m highest ranks of n cards that has k cards passes a test
 unfoldable pub high_test : (List ℕ → Bool) → (n k m : ℕ) → Bool
 unfolding members
@@ -132,6 +148,25 @@ module _ (Good : List ℕ → Type 0) (test : List ℕ → Bool) (n k : ℕ) (go
       down_more Good n k (2 ^ n - suc m) (2 ^ n - m) (omega arith) (high_good m (omega arith) both.1)
       (λ is. good g (run_group n k g is (members_run 0 n n (2 ^ n - suc m) (omega arith)))
       (sym (ap (λ b. cond b (test g) true) (eq-eqb (length g) k is)) ∙ both.0))
+
+-- the same, with the test told by `or`
+module _ (Good : List ℕ → Type 0) (test : List ℕ → Bool) (n k : ℕ) (good : (g : List ℕ) → Group n k g → test g ≡ true → Good g) where
+  unfoldable pub down_test : (m : ℕ) → Bool
+  unfolding members
+  down_test zero = true
+  down_test (suc m) = down_test m && (not (eqb (length (members 0 n (2 ^ n - suc m))) k) || test (members 0 n (2 ^ n - suc m)))
+
+  pub down_tested : (m : ℕ) → m ≤ 2 ^ n → down_test m ≡ true → Down Good n k (2 ^ n - m)
+  unfolding down_test
+  down_tested zero h e = down_start Good n k (2 ^ n - 0) (omega arith)
+  down_tested (suc m) h e =
+      let g = members 0 n (2 ^ n - suc m) in
+      let both = and_parts (down_test m) (not (eqb (length g) k) || test g) e in
+      down_more Good n k (2 ^ n - suc m) (2 ^ n - m) (omega arith) (down_tested m (omega arith) both.0)
+      (λ is. ⊎_elim
+      (λ apart. let z : true ≡ false = sym apart ∙ ap not (eq-eqb (length g) k is) in let w : ◌≡◌ {A = ℕ} 0 1 = cc in absurd (omega arith))
+      (λ hit. good g (run_group n k g is (members_run 0 n n (2 ^ n - suc m) (omega arith))) hit)
+      (or_cases (not (eqb (length g) k)) (test g) both.1))
 
 -- a check of a plan that its table passes over
 module _ (w : Property) {o : Operations} (laws : Laws o) (p : Plan) (room : ℕ) (clear : foremost (table o p room) ≡ None) where
