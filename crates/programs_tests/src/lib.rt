@@ -4,8 +4,8 @@
 #[cfg(test)]
 mod tests {
     use programs::dealing::deal_cards;
-    use programs::returning::open_cards;
     use programs::output::Output;
+    use programs::returning::open_cards;
     use std::alloc::AllocGlobal;
     use std::process::Abort;
     use std::test::*;
