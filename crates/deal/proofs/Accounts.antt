@@ -3,7 +3,7 @@ use Rattle.std.proofs.Common.{◌≡◌, ℕ, zero, suc, ◌+◌, ◌<◌, ◌�
 use mathlib.Core.Path.{fun_ext}
 use Rattle.std.proofs.lemmas.Bool.{cases_eq, eq-eqb, ne_eqb, leb-false, and_parts, not-false, false≢true}
 use Rattle.sharing.specs.Scheme.{Plan}
-use Rattle.deal.specs.declared.state.Mark.{Mark}
+use Rattle.lines.specs.declared.mark.DealMark.{DealMark}
 use Rattle.deal.specs.declared.state.Blank.{Blank}
 use Rattle.deal.specs.declared.state.State.{State}
 use Rattle.deal.specs.declared.state.CardState.{CardState}
@@ -232,7 +232,7 @@ all_wait (suc k) zero = refl
 all_wait (suc k) (suc j) = all_wait k j
 
 -- a new deal has no history
-pub stands-fresh : (mark : Mark) (t n L : ℕ) → Stands (fresh mark t n L) (fresh mark t n L) []
+pub stands-fresh : (mark : DealMark) (t n L : ℕ) → Stands (fresh mark t n L) (fresh mark t n L) []
 stands-fresh mark t n L = record {
   mark_is = refl;
   t_is = refl;
@@ -283,7 +283,7 @@ module _ (S : Scheme) (d₀ d : State) (h : List Event) (s : Stands d₀ d h) wh
   spoil_told x = λ i. answered (blank_rule (told_so i) x ∷ []) Back
 
 -- the law of accounts
-pub accounts : (S : Scheme) (mark : Mark) (t n L : ℕ) → n ≤ 8 → Accounts S (fresh mark t n L)
+pub accounts : (S : Scheme) (mark : DealMark) (t n L : ℕ) → n ≤ 8 → Accounts S (fresh mark t n L)
 accounts S mark t n L small = record {
   balance = λ calls. (at calls).balance;
   most = λ calls. (at calls).most;

@@ -6,8 +6,8 @@ use Rattle.field.specs.Rows.{within}
 use Rattle.field.specs.Refusals.{foremost}
 use Rattle.sharing.specs.Scheme.{Plan, Sound, Key, Dummies, Deal, store}
 use Rattle.sharing.specs.Secrecy.{Vets}
+use Rattle.lines.specs.declared.mark.DealMark.{DealMark}
 use Rattle.plan_check.specs.Faults.{faults}
-use Rattle.deal.specs.declared.state.Mark.{Mark}
 use Rattle.deal.specs.declared.state.CardState.{CardState}
 use Rattle.deal.specs.declared.state.CardState.TheVariants.{Waiting}
 use Rattle.deal.specs.Sharings.{rotated}
@@ -32,7 +32,7 @@ module _ (o : Operations) (some : 0 < o.size) (p : Plan) (sound : Sound o p) (L 
       (found.0, found.1.0, found.1.1, λ other are-other alike. found.2 other (are-other, alike))
 
   -- the law of the onlooker, for a plan that is vetted in this field
-  pub onlooker : Vets o p → (mark : Mark) (key dummies : List ℕ) → Deal o p L key dummies
+  pub onlooker : Vets o p → (mark : DealMark) (key dummies : List ℕ) → Deal o p L key dummies
       → Onlooker o (fresh mark p.t p.n L) p key dummies
   onlooker vets mark key dummies deal = record {
     begins = λ key' dummies' is_key are-dummies.
@@ -44,7 +44,7 @@ module _ (o : Operations) (some : 0 < o.size) (p : Plan) (sound : Sound o p) (L 
   }
 
 -- a deal that Begin grants
-pub begun : (o : Operations) → 0 < o.size → (p : Plan) (mark : Mark) (L : ℕ) (s : List ℕ)
+pub begun : (o : Operations) → 0 < o.size → (p : Plan) (mark : DealMark) (L : ℕ) (s : List ℕ)
     → foremost (begin_rules o p L s) ≡ None → Begun o (fresh mark p.t p.n L) p s
 begun o some p mark L s none =
     let clear = clear-table (begin_rules o p L s) none in

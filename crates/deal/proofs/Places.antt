@@ -1,5 +1,5 @@
 -- Where a number stands in a store. Assumes nothing.
-use Rattle.std.proofs.Common.{ℕ, zero, suc, ◌+◌, ◌-◌, ◌*◌, ◌<◌, ◌≤◌, subst, mul_assoc, one-mul, mul-zero, mul-one, arith}
+use Rattle.std.proofs.Common.{ℕ, ◌+◌, ◌-◌, ◌*◌, ◌<◌, ◌≤◌, subst, mul_assoc, one-mul, mul-one, arith}
 use native.Mathlib.Nat.{mul-div-le}
 use Rattle.std.proofs.lemmas.Nat.{mul-le}
 use Rattle.sharing.specs.Scheme.{lanes}
@@ -16,11 +16,6 @@ place t b i p e hi hp he = record {
   inside = subst (λ k. (i * t + p) * b + e < k) (mul_assoc t t b) (within (t * t) b (i * t + p) e (within t t i p hi hp) he);
 }
 
--- where there is a number, there is a lane
-pub lanes_some : (t b x : ℕ) → x < t * b → 0 < b
-lanes_some t zero x lt = absurd (omega (arith, mul-zero t))
-lanes_some t (suc b) x lt = omega arith
-
 -- a store is small: t times b is at most 71
 pub block_small : (t L : ℕ) → t ≤ 8 → L ≤ 64 → t * lanes t L ≤ 71
 block_small t L ht hL = omega (arith, mul-div-le (L + (t - 1)) t)
@@ -29,5 +24,5 @@ pub store_small : (t L : ℕ) → t ≤ 8 → L ≤ 64 → t * (t * lanes t L) �
 store_small t L ht hL = mul-le t (t * lanes t L) 8 71 ht (block_small t L ht hL)
 
 -- and a block of it is no longer than the store
-pub block_inside : (t L : ℕ) → 2 ≤ t → t * lanes t L ≤ t * (t * lanes t L)
-block_inside t L ht = omega (arith, mul-le 1 (t * lanes t L) t (t * lanes t L) (omega arith) (omega arith), one-mul (t * lanes t L))
+pub block_inside : (t w : ℕ) → 0 < t → w ≤ t * w
+block_inside t w ht = omega (arith, mul-le 1 w t w ht (omega arith), one-mul w)

@@ -10,7 +10,7 @@ use Rattle.std.specs.Prelude.{ℕ, zero, suc, ◌+◌, Bool, true, false, cond, 
 use Rattle.field.specs.declared.refusal.Refusal.{Refusal}
 use Rattle.field.specs.Refusals.{Rule, foremost, listing}
 use Rattle.sharing.specs.Scheme.{Plan}
-use Rattle.deal.specs.declared.state.Mark.{Mark}
+use Rattle.lines.specs.declared.mark.DealMark.{DealMark}
 use Rattle.deal.specs.declared.state.Blank.{Blank}
 use Rattle.deal.specs.declared.state.State.{State}
 use Rattle.deal.specs.declared.state.CardState.{CardState}
@@ -50,7 +50,7 @@ standing d j = slice_index_or d.cards j Waiting
 
 -- what is asked of a deal: its mark, t, n and key length, which cards are out, which are written, how many blanks it granted
 pub record Facts : Type 0 where
-  pub mark : Mark
+  pub mark : DealMark
   pub t : ℕ
   pub n : ℕ
   pub len : ℕ
@@ -71,7 +71,7 @@ held d = record {
 }
 
 -- whether two marks are one
-abbrev pub same_mark : Mark → Mark → Bool
+abbrev pub same_mark : DealMark → DealMark → Bool
 same_mark a b = a.number == b.number
 
 -- Take's table: no such card, the card is out, it is written, 200 blanks were granted
@@ -128,7 +128,7 @@ answer S d (Spoil x) = spoil_answer d x
 answer S d Count = count_answer d
 
 -- a new deal: all cards wait
-abbrev pub fresh : Mark → (t n L : ℕ) → State
+abbrev pub fresh : DealMark → (t n L : ℕ) → State
 fresh mark t n L = record { mark = mark; t = t; n = n; len = L; cards = replicate 8 Waiting; granted = 0; spoiled = 0 }
 
 -- card j put elsewhere, and so many more blanks granted and spoiled

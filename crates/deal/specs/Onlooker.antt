@@ -15,7 +15,7 @@ use Rattle.sharing.specs.Groups.{Group, Holds}
 use Rattle.field.specs.Refusals.{foremost}
 use Rattle.sharing.specs.Scheme.{Plan, Sound, Key, Dummies, Deal, store}
 use Rattle.sharing.specs.Secrecy.{Vets}
-use Rattle.deal.specs.declared.state.Mark.{Mark}
+use Rattle.lines.specs.declared.mark.DealMark.{DealMark}
 use Rattle.deal.specs.declared.state.State.{State}
 use Rattle.deal.specs.Faults.{begin_rules}
 use Rattle.deal.specs.Sharings.{Scheme, rotated}
@@ -92,7 +92,7 @@ Begun o d p s =
 
 -- both laws, for every sound plan, mark and key length
 pub record DealLaws (o : Operations) : Type 0 where
-  pub accounts : (p : Plan) → Sound o p → (mark : Mark) (L : ℕ) → Accounts (rotated o) (fresh mark p.t p.n L)
+  pub accounts : (p : Plan) → Sound o p → (mark : DealMark) (L : ℕ) → Accounts (rotated o) (fresh mark p.t p.n L)
   pub onlooker :
-      (p : Plan) → Sound o p → Vets o p → (mark : Mark) (L : ℕ) (key dummies : List ℕ) → Deal o p L key dummies
+      (p : Plan) → Sound o p → Vets o p → (mark : DealMark) (L : ℕ) (key dummies : List ℕ) → Deal o p L key dummies
       → Onlooker o (fresh mark p.t p.n L) p key dummies

@@ -1,10 +1,11 @@
 // Taking blanks, and bringing them back.
-ghost use Rattle.std.specs.Prelude.{◌≡◌, true, ◌&&◌};
+ghost use Rattle.std.specs.Prelude.{◌≡◌, true, ◌&&◌, Ok, Err, if◌then◌else◌};
 ghost use Rattle.deal.specs.Calls.{is_out, standing, same_mark, moved, take_answer, take_after, spoil_answer, spoil_after, gave, brought};
 
 use crate::deal::Deal;
-use crate::state::{Blank, CardState, MOST_BLANKS, Mark};
+use crate::state::{Blank, CardState, MOST_BLANKS};
 use field::refusal::Refusal;
+use lines::DealMark;
 
 impl Deal {
     // Gives a blank for card `j`.
@@ -15,8 +16,7 @@ impl Deal {
         if j >= self.state.n {
             return Err(Refusal::NoCard(j));
         }
-        let card = self.state.cards[j as usize];
-        match card {
+        match self.state.cards[j as usize] {
             CardState::Out => return Err(Refusal::CardOut(j)),
             CardState::Written => return Err(Refusal::CardWritten(j)),
             CardState::Waiting => {}
@@ -24,30 +24,24 @@ impl Deal {
         if self.state.granted >= MOST_BLANKS {
             return Err(Refusal::AllGranted);
         }
-        let mut state = self.state;
-        state.cards[j as usize] = CardState::Out;
-        state.granted += 1;
-        self.state = state;
+        self.state.cards[j as usize] = CardState::Out;
+        self.state.granted += 1;
         Ok(Blank {
             card: j,
-            mark: state.mark,
+            mark: self.state.mark,
         })
     }
 }
 
 impl Deal {
-    // Whether this deal's blank of that card is out.
-    pub(crate) fn is_out(&self, card: u8, mark: Mark) -> bool
-        ensures { result ≡ (same_mark mark self.now.state.mark && is_out (standing self.now.state card)) }
+    // Refuses a blank that is another deal's, or whose card is not out.
+    pub(crate) fn expect_out(&self, card: u8, mark: DealMark) -> Result<(), Refusal>
+        ensures { result ≡ (if same_mark mark self.now.state.mark && is_out (standing self.now.state card) then Ok tt else Err (Refusal.NotOut card)) }
     {
-        if mark.number != self.state.mark.number || card >= self.state.n {
-            return false;
+        if mark != self.state.mark || self.state.cards.get(card as usize) != Some(&CardState::Out) {
+            return Err(Refusal::NotOut(card));
         }
-        let found = self.state.cards[card as usize];
-        match found {
-            CardState::Out => true,
-            CardState::Waiting | CardState::Written => false,
-        }
+        Ok(())
     }
 
     // Makes a card that is out a written one.
@@ -55,9 +49,7 @@ impl Deal {
         requires { is_out (standing self.old.state card) ≡ true }
         ensures { self.new.state ≡ moved self.old.state card CardState.Written 0 0 }
     {
-        let mut state = self.state;
-        state.cards[card as usize] = CardState::Written;
-        self.state = state;
+        self.state.cards[card as usize] = CardState::Written;
     }
 
     // Counts the blank of a card that is out as spoiled; the card waits again.
@@ -65,10 +57,8 @@ impl Deal {
         requires { is_out (standing self.old.state card) ≡ true }
         ensures { self.new.state ≡ moved self.old.state card CardState.Waiting 0 1 }
     {
-        let mut state = self.state;
-        state.cards[card as usize] = CardState::Waiting;
-        state.spoiled += 1;
-        self.state = state;
+        self.state.cards[card as usize] = CardState::Waiting;
+        self.state.spoiled += 1;
     }
 }
 
@@ -86,9 +76,7 @@ impl Blank {
         ensures after { deal.new.state ≡ spoil_after deal.old.state self }
     {
         let Blank { card, mark } = self;
-        if !deal.is_out(card, mark) {
-            return Err(Refusal::NotOut(card));
-        }
+        deal.expect_out(card, mark)?;
         deal.bring_back(card);
         Ok(())
     }

@@ -11,16 +11,12 @@ impl Deal {
     pub fn count(&self) -> (u8, u8, u8)
         ensures { Counts result.0 result.1 result.2 ≡ count_answer self.now.state }
     {
-        let mut out = 0;
-        let mut written = 0;
-        for j in 0..self.state.n {
-            let card = self.state.cards[j as usize];
-            match card {
-                CardState::Waiting => {}
-                CardState::Out => out += 1,
-                CardState::Written => written += 1,
-            }
-        }
-        (out, written, self.state.spoiled)
+        let cards = &self.state.cards[..self.state.n as usize];
+        let out = cards.iter().filter(|card| **card == CardState::Out).count();
+        let written = cards
+            .iter()
+            .filter(|card| **card == CardState::Written)
+            .count();
+        (out as u8, written as u8, self.state.spoiled)
     }
 }

@@ -7,8 +7,8 @@ pub mod blank;
 mod casting;
 mod count;
 pub mod deal;
-mod fit;
 pub mod state;
+mod store;
 #[cfg(test)]
 mod tests;
 pub mod write;

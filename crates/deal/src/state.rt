@@ -1,14 +1,8 @@
 // What a deal holds, as plain records that the specifications speak of.
-use lines::MarkNumber;
-
-// The mark that tells one deal from another.
-#[derive(Clone, Copy)]
-pub struct Mark {
-    pub number: MarkNumber,
-}
+use lines::DealMark;
 
 // Where a card of a deal stands.
-#[derive(Clone, Copy)]
+#[derive(Clone, Copy, PartialEq, Eq, Debug)]
 pub enum CardState {
     // it may be taken
     Waiting,
@@ -26,9 +20,10 @@ pub const MOST_BLANKS: u8 = 200;
 
 // What a deal remembers: its mark, the plan's t and n, the key's length, where each card stands, and how many blanks were
 // granted and spoiled.
+// Stays: a deal has no heap and its memory is fixed, so the cards stand in an array of the most that there are, beside n.
 #[derive(Clone, Copy)]
 pub struct State {
-    pub(crate) mark: Mark,
+    pub(crate) mark: DealMark,
     pub(crate) t: u8,
     pub(crate) n: u8,
     pub(crate) len: u8,
@@ -41,5 +36,5 @@ pub struct State {
 // be written or spoiled.
 pub struct Blank {
     pub(crate) card: u8,
-    pub(crate) mark: Mark,
+    pub(crate) mark: DealMark,
 }

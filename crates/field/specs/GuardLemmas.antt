@@ -73,18 +73,18 @@ module _ {mark q : ℕ} {add : ℕ → ℕ → ℕ} {neg : ℕ → ℕ} {mul : �
   one : 1 < q
   one = omega (arith, laws.size_least)
 
-  plus : ℕ → ℕ → ℕ
-  plus = inside₂ q add
+  guarded_add : ℕ → ℕ → ℕ
+  guarded_add = inside₂ q add
 
-  times : ℕ → ℕ → ℕ
-  times = inside₂ q mul
+  guarded_mul : ℕ → ℕ → ℕ
+  guarded_mul = inside₂ q mul
 
   opposite_below : (a : ℕ) → inside q a (neg a) < q
   opposite_below a =
       ⊎_elim (λ h. subst (λ (x : ℕ). x < q) (sym (inside-code q a (neg a) h)) (laws.neg_code a h)) (λ n. subst (λ (x : ℕ). x < q) (sym (inside_other q a (neg a) n)) pos) (cases_lt a q)
 
-  distributes : (a b c : ℕ) → a < q → b < q → c < q → times a (plus b c) ≡ plus (times a b) (times a c)
-  unfolding plus times
+  distributes : (a b c : ℕ) → a < q → b < q → c < q → guarded_mul a (guarded_add b c) ≡ guarded_add (guarded_mul a b) (guarded_mul a c)
+  unfolding guarded_add guarded_mul
   distributes a b c ha hb hc =
       ap (inside₂ q mul a) (both_codes q add b c hb hc)
       ∙ both_codes q mul a (add b c) ha (laws.add_code b c hb hc)
@@ -93,7 +93,7 @@ module _ {mark q : ℕ} {add : ℕ → ℕ → ℕ} {neg : ℕ → ℕ} {mul : �
       ∙ ap₂ (inside₂ q add) (sym (both_codes q mul a b ha hb)) (sym (both_codes q mul a c ha hc))
 
   pub guarded_laws : Laws (guarded mark q add neg mul)
-  unfolding plus times
+  unfolding guarded_add guarded_mul
   guarded_laws = record {
     mark_byte = laws.mark_byte;
     size_least = laws.size_least;

@@ -21,7 +21,7 @@ impl Field for Gf97 {
     }
 
     fn size() -> u16 {
-        SIZE as u16
+        u16::from(SIZE)
     }
 
     fn sum(a: u8, b: u8) -> u8 {
@@ -60,7 +60,7 @@ impl Field for Gf97 {
 fn times(a: u8, b: u8) -> u8
     ensures { result ≡ (a * b) % 97 }
 {
-    (a as u16 * b as u16 % 97) as u8
+    (u16::from(a) * u16::from(b) % 97) as u8
 }
 
 #[cfg(test)]

@@ -1,6 +1,6 @@
 // The fields that there are: from the mark in a line of text to a field.
-ghost use Rattle.std.specs.Prelude.{◌≡◌, length, MatchOption, ◌≢◌};
-ghost use Rattle.field.specs.Known.{operations, Hold, worked_products};
+ghost use Rattle.std.specs.Prelude.{◌≡◌, length};
+ghost use Rattle.field.specs.Known.{Names, Hold, worked_products};
 
 // One of the fields. A program that has read a mark goes on by a match on this.
 #[derive(Clone, Copy, PartialEq, Eq, Debug)]
@@ -9,14 +9,22 @@ pub enum Known {
     Modulo97,
 }
 
-// The field with this mark, or none.
-pub fn by_mark(mark: u8) -> Option<Known>
-    ensures { MatchOption result ((k : Known) → (operations k).mark ≢ mark) (λ k. (operations k).mark ≡ mark) }
-{
-    match mark {
-        1 => Some(Known::Bytes),
-        2 => Some(Known::Modulo97),
-        _ => None,
+// A mark that no field has.
+#[derive(Clone, Copy, PartialEq, Eq, Debug)]
+pub struct UnknownMark(pub u8);
+
+// The field with this mark.
+impl TryFrom<u8> for Known {
+    type Error = UnknownMark;
+
+    ghost try_from_gives = { Names };
+
+    fn try_from(mark: u8) -> Result<Known, UnknownMark> {
+        match mark {
+            1 => Ok(Known::Bytes),
+            2 => Ok(Known::Modulo97),
+            _ => Err(UnknownMark(mark)),
+        }
     }
 }
 

@@ -9,8 +9,8 @@ pub fn sum_of_products<F: Field>(row: &[u8], word: &[u8]) -> u8
     ensures { result ≡ sum F.Field.ops (min (length row.now) (length word.now)) (λ p. F.Field.ops.mul (slice_index row.now p) (slice_index word.now p)) }
 {
     let mut total = 0;
-    for p in 0..row.len().min(word.len()) {
-        total = F::sum(total, F::product(row[p], word[p]));
+    for (a, x) in row.iter().zip(word) {
+        total = F::sum(total, F::product(*a, *x));
     }
     total
 }

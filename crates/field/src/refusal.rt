@@ -98,23 +98,28 @@ impl Refusal {
         ensures { result ≡ (listing self).1 }
     {
         match self {
-            Refusal::RowCode(index) | Refusal::StoreCode(index) | Refusal::StorePadding(index) =>
-                index,
-            Refusal::DataCode(place) => place,
-            Refusal::KeyPadding(index) => index,
-            Refusal::GroupShut(group) | Refusal::GroupTells(group) => group,
+            Refusal::RowCode(value)
+            | Refusal::GroupShut(value)
+            | Refusal::GroupTells(value)
+            | Refusal::StoreCode(value)
+            | Refusal::StorePadding(value)
+            | Refusal::DataCode(value)
+            | Refusal::KeyPadding(value) => value,
             Refusal::NoCard(card)
             | Refusal::CardOut(card)
             | Refusal::CardWritten(card)
-            | Refusal::NotOut(card) => card as u16,
-            Refusal::NumberBeyond(card) | Refusal::NumberTwice(card) => card as u16,
+            | Refusal::NotOut(card)
+            | Refusal::NumberBeyond(card)
+            | Refusal::NumberTwice(card) => u16::from(card),
             Refusal::PlanLimits
             | Refusal::RowsLength
             | Refusal::Workspace
             | Refusal::KeyLength
-            | Refusal::StoreLength => 0,
-            Refusal::WriteMismatch | Refusal::PlaceLength | Refusal::AllGranted => 0,
-            Refusal::CardCount
+            | Refusal::StoreLength
+            | Refusal::WriteMismatch
+            | Refusal::PlaceLength
+            | Refusal::AllGranted
+            | Refusal::CardCount
             | Refusal::LengthBeyond
             | Refusal::DataLength
             | Refusal::KeyPlace

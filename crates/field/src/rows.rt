@@ -29,12 +29,12 @@ pub fn cauchy_rows<F: Field>(t: u8, n: u8, rows: &mut [u8]) -> Result<(), Refusa
     if !within_limits(t, n) {
         return Err(Refusal::PlanLimits);
     }
-    let width = t as usize;
-    if rows.len() != (n - t) as usize * width {
+    let width = usize::from(t);
+    if rows.len() != usize::from(n - t) * width {
         return Err(Refusal::RowsLength);
     }
-    for i in 0..rows.len() {
-        rows[i] = cauchy_number::<F>(t + (i / width) as u8, (i % width) as u8);
+    for (i, number) in rows.iter_mut().enumerate() {
+        *number = cauchy_number::<F>(t + (i / width) as u8, (i % width) as u8);
     }
     Ok(())
 }

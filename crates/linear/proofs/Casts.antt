@@ -5,7 +5,7 @@ use Rattle.std.proofs.lemmas.Bool.{lt-ltb, le-ltb, eq-eqb, ne_eqb, cases_lt, con
 use Rattle.field.specs.Codes.{Operations, Laws}
 use Rattle.linear.specs.Casting.{row, cast}
 use Rattle.linear.specs.Systems.{numbers, dot}
-use Rattle.linear.proofs.Coded.{sum_cong, products_zero, products_past, products_pick}
+use Rattle.linear.proofs.Coded.{sum_cong, products_past, products_pick}
 
 module _ {o : Operations} (laws : Laws o) where
   -- the numbers that both have are enough
@@ -34,24 +34,19 @@ module _ {o : Operations} (laws : Laws o) where
   given_row : (t : ℕ) (given : List ℕ) (c p : ℕ) → t ≤ c → row t given c p ≡ get_or given ((c - t) * t + p) 0
   given_row t given c p h = cond-false (ltb c t) (cond (eqb c p) 1 0) (get_or given ((c - t) * t + p) 0) (le-ltb c t h)
 
-  -- a given row
-  cast_given : (t : ℕ) (given : List ℕ) (word : ℕ → ℕ) (c from : ℕ) → t ≤ c → from ≡ (c - t) * t
-      → dot o t (numbers (drop from given)) word ≡ cast o t given word c
-  cast_given t given word c from h e =
-      sum_cong o t (λ p. o.mul (numbers (drop from given) p) (word p)) (λ p. o.mul (row t given c p) (word p))
-      (λ p l.
-      ap (λ x. o.mul x (word p))
-      (get_or-drop from given p 0 ∙ ap (λ i. get_or given (i + p) 0) e ∙ sym (given_row t given c p h)))
-
-  -- a given row that was cut out of the list
-  pub cast_cut : (s given word : List ℕ) (c from : ℕ) → length word ≤ c → from ≡ (c - length word) * length word → s ≡ drop from given
-      → dot o (min (length s) (length word)) (numbers s) (numbers word) ≡ cast o (length word) given (numbers word) c
+  -- a given row that was cut out of the list, or what is past the list's end
+  pub cast_cut : (s given word : List ℕ) (c from : ℕ) → length word ≤ c → from ≡ min ((c - length word) * length word) (length given)
+      → s ≡ drop from given → dot o (min (length s) (length word)) (numbers s) (numbers word) ≡ cast o (length word) given (numbers word) c
   cast_cut s given word c from h e cut =
       dot_short s word (min (length s) (length word)) refl
-      ∙ ap (λ x. dot o (length word) (numbers x) (numbers word)) cut
-      ∙ cast_given (length word) given (numbers word) c from h e
-
-  -- a row that is not there
-  pub cast_absent : (t : ℕ) (given : List ℕ) (word : ℕ → ℕ) (c : ℕ) → t ≤ c → length given ≤ (c - t) * t → 0 ≡ cast o t given word c
-  cast_absent t given word c h past =
-      sym (products_zero laws t (row t given c) word (λ p l. given_row t given c p h ∙ get_or_past given ((c - t) * t + p) 0 (omega arith)))
+      ∙ sum_cong o (length word) (λ p. o.mul (numbers s p) (numbers word p)) (λ p. o.mul (row (length word) given c p) (numbers word p))
+      (λ p l.
+      ap (λ x. o.mul x (numbers word p))
+      (ap (λ x. numbers x p) cut ∙ get_or-drop from given p 0 ∙ reached p ∙ sym (given_row (length word) given c p h)))
+    where
+      reached : (p : ℕ) → get_or given (from + p) 0 ≡ get_or given ((c - length word) * length word + p) 0
+      reached p =
+          ⊎_elim
+          (λ l. let all : from ≡ (c - length word) * length word = omega arith in ap (λ i. get_or given (i + p) 0) all)
+          (λ l. get_or_past given (from + p) 0 (omega arith) ∙ sym (get_or_past given ((c - length word) * length word + p) 0 (omega arith)))
+          (cases_lt ((c - length word) * length word) (length given))

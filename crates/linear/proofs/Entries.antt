@@ -42,10 +42,6 @@ abbrev pub Between : ℕ → ℕ → ℕ → List ℕ → (ℕ → ℕ → ℕ) 
 Between w k c s new t = (r x : ℕ) → x < w → entry w t r x ≡ past k x (entry w s r x) (past c x (new r x) (entry w s r x))
 
 module _ (w k : ℕ) (s : List ℕ) (new : ℕ → ℕ → ℕ) where
-  pub between_none : Between w k k s new s
-  between_none r x h =
-      ⊎_elim (λ l. sym (past-before k x _ _ l)) (λ l. sym (past_from k x _ _ l ∙ past_from k x _ _ l)) (cases_lt x k)
-
   -- a column not yet reached
   pub between_old : (c : ℕ) (t : List ℕ) → Between w k c s new t → (r x : ℕ) → k ≤ c → c ≤ x → x < w → entry w t r x ≡ entry w s r x
   between_old c t b r x kc cx h =
@@ -74,11 +70,6 @@ module _ (w k : ℕ) (s : List ℕ) (new : ℕ → ℕ → ℕ) where
 
       off : x ≢ c → entry w u r x ≡ past k x (entry w s r x) (past (c + 1) x (new r x) (entry w s r x))
       off a = others r x h a ∙ b r x h ∙ ap (past k x (entry w s r x)) (same a)
-
-  -- all columns from k on
-  pub between_all : (c : ℕ) (t : List ℕ) → Between w k c s new t → w ≤ c
-      → (r x : ℕ) → x < w → entry w t r x ≡ past k x (entry w s r x) (new r x)
-  between_all c t b wc r x h = b r x h ∙ ap (past k x (entry w s r x)) (past-before c x (new r x) (entry w s r x) (omega arith))
 
   -- one column more, where only row q has a new number
   pub between_write : (c q v : ℕ) (t : List ℕ) → Between w k c s new t → k ≤ c → c < w → q * w + c < length t

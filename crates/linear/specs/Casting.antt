@@ -3,9 +3,10 @@
 --   cast        number c of the cast of a word
 --   RowsGiven   as many given numbers as a plan's given rows hold
 --   Casts       what casting a word answers and leaves
-use Rattle.std.specs.Prelude.{◌≡◌, ℕ, ◌+◌, ◌-◌, ◌*◌, ◌<◌, ◌≤◌, Bool, true, false, cond, List, length, ◌==◌, nat_lt, slice_index}
+use Rattle.std.specs.Prelude.{◌≡◌, ℕ, ◌+◌, ◌-◌, ◌*◌, ◌<◌, ◌≤◌, cond, List, length, Ok, Err, Result, ◌==◌, nat_lt, slice_index}
 use Rattle.field.specs.Codes.{Operations}
 use Rattle.linear.specs.Systems.{numbers, dot}
+use Rattle.linear.specs.declared.casting.UnfitRows.{UnfitRows}
 
 -- place p of row c: rows below t are unit rows, the others stand one after another in a list, t numbers each
 abbrev pub row : ℕ → List ℕ → ℕ → ℕ → ℕ
@@ -21,8 +22,8 @@ pub record RowsGiven (given t n : ℕ) : Type 0 where
   pub numbers : given ≡ (n - t) * t
 
 -- what casting a word answers, and t that stands where s stood: as many numbers of the cast, if the rows are given; else s
-abbrev pub Casts : Operations → List ℕ → List ℕ → List ℕ → List ℕ → Bool → Type 0
-Casts o given word s t true =
+abbrev pub Casts : Operations → List ℕ → List ℕ → List ℕ → List ℕ → Result (Unit {0}) UnfitRows → Type 0
+Casts o given word s t (Ok _) =
     RowsGiven (length given) (length word) (length s)
     × ((c : ℕ) → c < length s → slice_index t c ≡ cast o (length word) given (numbers word) c)
-Casts o given word s t false = (RowsGiven (length given) (length word) (length s) → ⊥) × (t ≡ s)
+Casts o given word s t (Err _) = (RowsGiven (length given) (length word) (length s) → ⊥) × (t ≡ s)

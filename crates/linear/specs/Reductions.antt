@@ -6,12 +6,12 @@
 --   Solved    every column has a pivot: each right side has given way to its solution
 --   Stuck     column k is the first without a pivot
 --   Reduced   what row reduction answers and leaves
-use Rattle.std.specs.Prelude.{◌≡◌, ℕ, ◌*◌, ◌<◌, ◌≤◌, cond, List, length, Some, None, Option, ◌==◌, slice_index}
+use Rattle.std.specs.Prelude.{◌≡◌, ℕ, ◌*◌, ◌<◌, ◌≤◌, cond, List, length, Ok, Err, Result, ◌==◌, slice_index}
 use Rattle.field.specs.Codes.{Operations}
 use Rattle.linear.specs.Pivots.{entry}
 use Rattle.linear.specs.Systems.{times, Solves, Regular, Null}
-use Rattle.linear.specs.declared.reduction.Reduction.{Reduction}
-use Rattle.linear.specs.declared.reduction.Reduction.TheVariants.{Full, NoPivot}
+use Rattle.linear.specs.declared.reduction.Unreduced.{Unreduced}
+use Rattle.linear.specs.declared.reduction.Unreduced.TheVariants.{NoMatrix, NoPivot}
 
 -- s is a matrix of codes of n rows and w columns, at least as many as rows
 pub record Matrix (o : Operations) (n w : ℕ) (s : List ℕ) : Type 0 where
@@ -45,7 +45,7 @@ pub record Stuck (o : Operations) (n w k : ℕ) (s : List ℕ) : Type 0 where
   pub first : (v : ℕ → ℕ) → Null o n (entry w s) v → ((c : ℕ) → k ≤ c → c < n → v c ≡ 0) → (c : ℕ) → c < n → v c ≡ 0
 
 -- what row reduction of s answers, and t that it leaves
-abbrev pub Reduced : Operations → ℕ → ℕ → List ℕ → List ℕ → Option Reduction → Type 0
-Reduced o n w s t None = (Matrix o n w s → ⊥) × (t ≡ s)
-Reduced o n w s t (Some Full) = Matrix o n w s × Kept o n w n s t × Solved o n w s t
-Reduced o n w s t (Some (NoPivot k)) = Matrix o n w s × Kept o n w k s t × Stuck o n w k s
+abbrev pub Reduced : Operations → ℕ → ℕ → List ℕ → List ℕ → Result (Unit {0}) Unreduced → Type 0
+Reduced o n w s t (Ok _) = Matrix o n w s × Kept o n w n s t × Solved o n w s t
+Reduced o n w s t (Err NoMatrix) = (Matrix o n w s → ⊥) × (t ≡ s)
+Reduced o n w s t (Err (NoPivot k)) = Matrix o n w s × Kept o n w k s t × Stuck o n w k s

@@ -2,7 +2,7 @@
 // that the cast begins with the word itself; the others are given, one after another, t numbers each.
 ghost use Rattle.std.specs.Prelude.{◌≡◌, true, false, length};
 ghost use Rattle.linear.specs.Casting.{cast, RowsGiven, Casts};
-ghost use Rattle.linear.specs.Systems.{numbers, dot};
+ghost use Rattle.linear.specs.Systems.{numbers};
 
 use field::Field;
 use field::products::sum_of_products;
@@ -15,16 +15,8 @@ pub fn cast_number<F: Field>(given: &[u8], word: &[u8], c: usize) -> u8
     if c < t {
         return F::product(1, word[c]);
     }
-    match (c - t).checked_mul(t) {
-        Some(from) => {
-            if from <= given.len() {
-                sum_of_products::<F>(&given[from..], word)
-            } else {
-                0
-            }
-        }
-        None => 0,
-    }
+    let from = (c - t).saturating_mul(t).min(given.len());
+    sum_of_products::<F>(&given[from..], word)
 }
 
 // Whether `given` numbers are as many as the rows from t on hold in a plan of n rows of t numbers.
@@ -32,25 +24,23 @@ fn is_sized(given: usize, t: usize, n: usize) -> bool
     ensures yes { result ≡ true → RowsGiven given t n }
     ensures no { result ≡ false → RowsGiven given t n → ⊥ }
 {
-    if n < t {
-        return false;
-    }
-    match (n - t).checked_mul(t) {
-        Some(size) => size == given,
-        None => false,
-    }
+    n.checked_sub(t).and_then(|rows| rows.checked_mul(t)) == Some(given)
 }
 
-// Casts the word to as many numbers as `out` holds. Answers false, with nothing changed, if the given numbers are not
-// as many as the rows from t on hold.
-pub fn cast_word<F: Field>(given: &[u8], word: &[u8], out: &mut [u8]) -> bool
+// The given numbers are not as many as the rows from t on hold.
+#[derive(Clone, Copy, PartialEq, Eq, Debug)]
+pub struct UnfitRows;
+
+// Casts the word to as many numbers as `out` holds. Refused, with nothing changed, if the given numbers are not as many as
+// the rows from t on hold.
+pub fn cast_word<F: Field>(given: &[u8], word: &[u8], out: &mut [u8]) -> Result<(), UnfitRows>
     ensures { Casts F.Field.ops given.now word.now out.old out.new result }
 {
     if !is_sized(given.len(), word.len(), out.len()) {
-        return false;
+        return Err(UnfitRows);
     }
-    for c in 0..out.len() {
-        out[c] = cast_number::<F>(given, word, c);
+    for (c, number) in out.iter_mut().enumerate() {
+        *number = cast_number::<F>(given, word, c);
     }
-    true
+    Ok(())
 }

@@ -6,11 +6,11 @@ ghost use Rattle.linear.specs.Reductions.{Matrix, Reduced};
 use crate::rows::reduce_column;
 use field::Field;
 
-// How row reduction ends.
+// Why a matrix is not reduced.
 #[derive(Clone, Copy, PartialEq, Eq, Debug)]
-pub enum Reduction {
-    // Every column of the coefficients has a pivot.
-    Full,
+pub enum Unreduced {
+    // The slice is no such matrix of codes.
+    NoMatrix,
     // The first column without a pivot.
     NoPivot(usize),
 }
@@ -20,12 +20,7 @@ fn all_codes<F: Field>(m: &[u8]) -> bool
     ensures yes { result ≡ true → (i : ℕ) → i < length m.now → slice_index m.now i < F.Field.ops.size }
     ensures no { result ≡ false → ((i : ℕ) → i < length m.now → slice_index m.now i < F.Field.ops.size) → ⊥ }
 {
-    for x in m {
-        if u16::from(*x) >= F::size() {
-            return false;
-        }
-    }
-    true
+    m.iter().all(|x| u16::from(*x) < F::size())
 }
 
 // Whether `m` is a matrix of codes of `rows` rows and `width` columns, at least as many as rows.
@@ -33,30 +28,22 @@ fn is_matrix<F: Field>(m: &[u8], rows: usize, width: usize) -> bool
     ensures yes { result ≡ true → Matrix F.Field.ops rows width m.now }
     ensures no { result ≡ false → Matrix F.Field.ops rows width m.now → ⊥ }
 {
-    if rows > width {
-        return false;
-    }
-    match rows.checked_mul(width) {
-        Some(size) => size == m.len() && all_codes::<F>(m),
-        None => false,
-    }
+    rows <= width && rows.checked_mul(width) == Some(m.len()) && all_codes::<F>(m)
 }
 
 // Reduces the matrix of `rows` rows and `width` columns in `m`: its first `rows` columns are the coefficients of a system,
-// the columns after them right sides. Full: each right side has given way to its solution. Refused, with nothing changed,
+// the columns after them right sides. Ok: each right side has given way to its solution. Refused, with nothing changed,
 // if `m` is no such matrix of codes. At most rows² × width products and one reciprocal a column, since no step works on
 // columns that are done.
-pub fn reduce<F: Field>(m: &mut [u8], rows: usize, width: usize) -> Option<Reduction>
+pub fn reduce<F: Field>(m: &mut [u8], rows: usize, width: usize) -> Result<(), Unreduced>
     ensures reduced { Reduced F.Field.ops rows width m.old m.new result }
     ensures alternative { Alternative F.Field.ops }
 {
     if !is_matrix::<F>(m, rows, width) {
-        return None;
+        return Err(Unreduced::NoMatrix);
     }
     for k in 0..rows {
-        if !reduce_column::<F>(m, rows, width, k) {
-            return Some(Reduction::NoPivot(k));
-        }
+        reduce_column::<F>(m, rows, width, k).ok_or(Unreduced::NoPivot(k))?;
     }
-    Some(Reduction::Full)
+    Ok(())
 }

@@ -4,9 +4,6 @@ use Rattle.lines.specs.Faults.{first}
 use Rattle.lines.specs.declared.fault.Fault.{Fault}
 
 module _ (b : Bool) (f : Fault) (xs : List (Bool × Fault)) where
-  pub first_here : b ≡ true → first ((b, f) ∷ xs) ≡ Some f
-  first_here e = ap (λ v. cond v (Some f) (first xs)) e
-
   pub first_next : b ≡ false → first ((b, f) ∷ xs) ≡ first xs
   first_next e = ap (λ v. cond v (Some f) (first xs)) e
 

@@ -1,5 +1,5 @@
 -- How far the front of a list passes a test. Assumes nothing.
-use Rattle.std.proofs.Common.{◌≡◌, ℕ, zero, suc, ◌+◌, ◌<◌, ◌≤◌, Bool, true, false, cond, List, [], ◌∷◌, ◌++◌, length, get_or, take, refl, ap, ◌∙◌, one-add, arith}
+use Rattle.std.proofs.Common.{◌≡◌, ℕ, zero, suc, ◌+◌, ◌≤◌, Bool, true, false, cond, List, [], ◌∷◌, ◌++◌, length, take, refl, ap, ◌∙◌, arith}
 use Rattle.std.specs.List.{prefix_len, AllByRecursion}
 
 module _ (p : ℕ → Bool) where
@@ -22,16 +22,3 @@ module _ (p : ℕ → Bool) where
       go : (b : Bool) → p x ≡ b → (k ≤ prefix_len p xs → AllByRecursion (λ y. p y ≡ true) (take k xs)) → (p x ≡ true) × AllByRecursion (λ y. p y ≡ true) (take k xs)
       go true e ih = (e, ih (omega (arith, ap (λ b. cond b (1 + prefix_len p xs) 0) e)))
       go false e ih = absurd (omega (arith, ap (λ b. cond b (1 + prefix_len p xs) 0) e))
-
-  -- what comes after does not pass
-  pub leading_stop : (xs : List ℕ) → prefix_len p xs < length xs → p (get_or xs (prefix_len p xs) 0) ≡ false
-  leading_stop [] h = absurd (omega arith)
-  leading_stop (x ∷ xs) h = go (p x) refl (leading_stop xs)
-    where
-      go : (b : Bool) → p x ≡ b → (prefix_len p xs < length xs → p (get_or xs (prefix_len p xs) 0) ≡ false) → p (get_or (x ∷ xs) (prefix_len p (x ∷ xs)) 0) ≡ false
-      go true e ih =
-          let n : prefix_len p (x ∷ xs) ≡ suc (prefix_len p xs) = ap (λ b. cond b (1 + prefix_len p xs) 0) e ∙ one-add (prefix_len p xs) in
-          ap (λ k. p (get_or (x ∷ xs) k 0)) n ∙ ih (omega arith)
-      go false e ih =
-          let n : prefix_len p (x ∷ xs) ≡ 0 = ap (λ b. cond b (1 + prefix_len p xs) 0) e in
-          ap (λ k. p (get_or (x ∷ xs) k 0)) n ∙ e

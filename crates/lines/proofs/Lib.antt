@@ -1,7 +1,7 @@
 -- Lemmas of this crate.
 pub mod Contents
 mod Cuts
-mod Fields
+pub mod Fields
 pub mod Firsts
 mod Leads
 pub mod Numerals
@@ -10,4 +10,5 @@ pub mod Rereading
 pub mod Rewriting
 pub mod Skipping
 pub mod Spelling
+pub mod Standing
 mod Texts

@@ -3,20 +3,19 @@ use Rattle.std.proofs.Common.{◌≡◌, ℕ, ◌≤◌, Bool, true, false, cond
 use Rattle.std.specs.List.{prefix_len, AllByRecursion}
 use Rattle.std.proofs.lemmas.List.Sums.{prefix_len-le-length}
 use Rattle.std.proofs.lemmas.Bool.{not-false}
-use Rattle.lines.specs.Digits.{passes}
+use Rattle.lines.specs.Digits.{is_inline, is_sound}
 use Rattle.lines.specs.Faults.{first, fault_carries, fault_number}
 use Rattle.lines.specs.Lines.{Content, Kept, head, lineless, sound_to, of_kind, formed, kind_of, content_of, within, counted, line_faults, number_faults, faults, unless, reading}
-use Rattle.lines.specs.declared.digits.Class.TheVariants.{Inline, Sound}
 use Rattle.lines.specs.declared.fault.Fault.{Fault}
 use Rattle.lines.specs.declared.fault.Fault.TheVariants.{Absent, Byte, Unwanted, Shape, Limits, Length}
 use Rattle.lines.specs.declared.wanted.Wanted.{Wanted}
 use Rattle.lines.proofs.Firsts.{first-clear}
 
-unless_ok : (o : Option Fault) (x c : Content) → unless o x ≡ Ok c → (o ≡ None) × (x ≡ c)
+pub unless_ok : {A : Type 0} (o : Option Fault) (x c : A) → unless o x ≡ Ok c → (o ≡ None) × (x ≡ c)
 unless_ok None x c e = (refl, cc)
 unless_ok (Some f) x c e = let z : ◌≡◌ {A = ℕ} 0 1 = cc in absurd (omega arith)
 
-unless_err : (o : Option Fault) (x : Content) (f : Fault) → unless o x ≡ Err f → o ≡ Some f
+pub unless_err : {A : Type 0} (o : Option Fault) (x : A) (f : Fault) → unless o x ≡ Err f → o ≡ Some f
 unless_err None x f e = let z : ◌≡◌ {A = ℕ} 0 1 = cc in absurd (omega arith)
 unless_err (Some g) x f e = cc
 
@@ -68,7 +67,7 @@ first_all P (x ∷ xs) f u e = go x.0 refl (first_all P xs f u.1)
 pub read_err : (w : Wanted) (text : List ℕ) (f : Fault) → reading w text ≡ Err f → fault_carries f ≤ length text
 read_err w text f e =
     let l = head text in
-    let place : sound_to l ≤ length text = omega (arith, prefix_len-le-length (passes Sound) l, length-take (prefix_len (passes Inline) text) text) in
+    let place : sound_to l ≤ length text = omega (arith, prefix_len-le-length is_sound l, length-take (prefix_len is_inline text) text) in
     first_all (λ g. fault_carries g ≤ length text) (faults w text) f
     (omega arith, (place, (omega arith, (omega arith, (omega arith, (omega arith, tt))))))
     (unless_err (first (faults w text)) (content_of (kind_of w) l) f e)

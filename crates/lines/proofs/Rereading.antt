@@ -6,14 +6,13 @@ use Rattle.std.proofs.ByRecursion.{All-append, All-weaker}
 use Rattle.std.proofs.lemmas.List.{drop_at, take_at, drop-drop, nil_from_length}
 use Rattle.std.proofs.lemmas.Bool.{and_from, or_left, or_from, not_from_true, eq-eqb, ne_eqb, le-leb, lt-leb, le-ltb, lt-ltb, ltb-true, ltb-false}
 use Rattle.std.proofs.lemmas.Bool.Decides.{nat_tests}
-use Rattle.lines.specs.Digits.{is_digit, passes, hex, spelled, numeral, wide, space, newline}
+use Rattle.lines.specs.Digits.{is_digit, is_inline, is_sound, hex, spelled, numeral, wide, space, newline}
 use Rattle.lines.specs.Faults.{first}
 use Rattle.lines.specs.Kinds.{kind_number, widths, has_data}
 use Rattle.lines.specs.Lines.{Content, head, lineless, sound_to, of_kind, formed, kind_of, content_of, data_place, text_faults, line_faults, unless, reading, judged}
 use Rattle.lines.specs.RoundTrips.{Fits, Fitting, Rereads, rest}
 use Rattle.lines.specs.Shapes.{spaced, shaped, reach, values}
 use Rattle.lines.specs.Writing.{fields_text, data_text, written}
-use Rattle.lines.specs.declared.digits.Class.TheVariants.{Inline, Sound}
 use Rattle.lines.specs.declared.fault.Fault.TheVariants.{Byte, Unwanted, Shape}
 use Rattle.lines.specs.declared.kind.Kind.{Kind}
 use Rattle.lines.specs.declared.kind.Kind.TheVariants.{Plan, Row, Card, Key, Dummy, Refusal}
@@ -131,28 +130,28 @@ under_kind Dummy = omega arith
 under_kind Refusal = omega arith
 
 -- all that is written before the closing byte may stand in a line
-sound_digits : (bs : List ℕ) → AllBelowBase 256 bs → AllByRecursion (λ b. passes Sound b ≡ true) (hex bs)
-sound_digits bs u = All-weaker (λ d. is_digit d ≡ true) (λ b. passes Sound b ≡ true) (λ b e. or_left (is_digit b) (eqb b space) e) (hex bs) (digits_hex bs u)
+sound_digits : (bs : List ℕ) → AllBelowBase 256 bs → AllByRecursion (λ b. is_sound b ≡ true) (hex bs)
+sound_digits bs u = All-weaker (λ d. is_digit d ≡ true) (λ b. is_sound b ≡ true) (λ b e. or_left (is_digit b) (eqb b space) e) (hex bs) (digits_hex bs u)
 
-sound_fields : (ws vs : List ℕ) → AllByRecursion (λ b. passes Sound b ≡ true) (fields_text ws vs)
+sound_fields : (ws vs : List ℕ) → AllByRecursion (λ b. is_sound b ≡ true) (fields_text ws vs)
 sound_fields [] vs = tt
 sound_fields (w ∷ ws) [] = tt
-sound_fields (w ∷ ws) (v ∷ vs) = (refl, All-append (λ b. passes Sound b ≡ true) (hex (wide w v)) (fields_text ws vs) (sound_digits (wide w v) (under_wide w v)) (sound_fields ws vs))
+sound_fields (w ∷ ws) (v ∷ vs) = (refl, All-append (λ b. is_sound b ≡ true) (hex (wide w v)) (fields_text ws vs) (sound_digits (wide w v) (under_wide w v)) (sound_fields ws vs))
 
-sound_data : (d : Bool) (ns : List ℕ) → AllBelowBase 256 ns → AllByRecursion (λ b. passes Sound b ≡ true) (cond d (space ∷ hex ns) [])
+sound_data : (d : Bool) (ns : List ℕ) → AllBelowBase 256 ns → AllByRecursion (λ b. is_sound b ≡ true) (cond d (space ∷ hex ns) [])
 sound_data false ns u = tt
 sound_data true ns u = (refl, sound_digits ns u)
 
-sound_inline : (b : ℕ) → passes Sound b ≡ true → passes Inline b ≡ true
+sound_inline : (b : ℕ) → is_sound b ≡ true → is_inline b ≡ true
 sound_inline b e = grind (arith, nat_tests)
 
 -- the line without its closing byte
 abbrev body_of : Kind → List ℕ → List ℕ → List ℕ
 body_of k vs ns = hex (kind_number k ∷ []) ++ (fields_text (widths k) vs ++ data_text k ns)
 
-sound_body : (k : Kind) (vs ns : List ℕ) → AllBelowBase 256 ns → AllByRecursion (λ b. passes Sound b ≡ true) (body_of k vs ns)
+sound_body : (k : Kind) (vs ns : List ℕ) → AllBelowBase 256 ns → AllByRecursion (λ b. is_sound b ≡ true) (body_of k vs ns)
 sound_body k vs ns u =
-    let p = λ (b : ℕ). passes Sound b ≡ true in
+    let p = λ (b : ℕ). is_sound b ≡ true in
     All-append p (hex (kind_number k ∷ [])) (fields_text (widths k) vs ++ data_text k ns) (sound_digits (kind_number k ∷ []) (under_kind k, tt))
     (All-append p (fields_text (widths k) vs) (data_text k ns) (sound_fields (widths k) vs) (sound_data (has_data k) ns u))
 
@@ -181,11 +180,11 @@ join : (h f d more : List ℕ) (n : ℕ) → (h ++ (f ++ (d ++ (n ∷ [])))) ++ 
 join h f d more n = simp append_assoc
 
 -- a line of such bytes, closed, before other text
-module _ (l more : List ℕ) (sound : AllByRecursion (λ b. passes Sound b ≡ true) l) (long : 0 < length l) where
-  lead : prefix_len (passes Inline) (l ++ (newline ∷ more)) ≡ length l
+module _ (l more : List ℕ) (sound : AllByRecursion (λ b. is_sound b ≡ true) l) (long : 0 < length l) where
+  lead : prefix_len is_inline (l ++ (newline ∷ more)) ≡ length l
   lead =
-      let inline = All-weaker (λ b. passes Sound b ≡ true) (λ b. passes Inline b ≡ true) sound_inline l sound in
-      omega (arith, leading_append (passes Inline) l (newline ∷ more) inline)
+      let inline = All-weaker (λ b. is_sound b ≡ true) (λ b. is_inline b ≡ true) sound_inline l sound in
+      omega (arith, leading_append is_inline l (newline ∷ more) inline)
 
   head_line : head (l ++ (newline ∷ more)) ≡ l
   head_line = ap (λ n. take n (l ++ (newline ∷ more))) lead ∙ take_at l (newline ∷ more) (length l) refl
@@ -211,9 +210,9 @@ rest-written c more u =
     ∙ rest-line (body_of k c.fields c.numbers) more (sound_body k c.fields c.numbers u) (omega arith)
 
 -- a line of the kind and form that are wanted has no fault in its text
-no_text_fault : (k : Kind) (l : List ℕ) → AllByRecursion (λ b. passes Sound b ≡ true) l → of_kind k l ≡ true → formed k l ≡ true → first (text_faults k l) ≡ None
+no_text_fault : (k : Kind) (l : List ℕ) → AllByRecursion (λ b. is_sound b ≡ true) l → of_kind k l ≡ true → formed k l ≡ true → first (text_faults k l) ≡ None
 no_text_fault k l s e f =
-    first_next (ltb (sound_to l) (length l)) (Byte (sound_to l)) ((not (of_kind k l), Unwanted) ∷ (not (formed k l), Shape) ∷ []) (le-ltb (sound_to l) (length l) (omega (arith, leading_all (passes Sound) l s))) ∙
+    first_next (ltb (sound_to l) (length l)) (Byte (sound_to l)) ((not (of_kind k l), Unwanted) ∷ (not (formed k l), Shape) ∷ []) (le-ltb (sound_to l) (length l) (omega (arith, leading_all is_sound l s))) ∙
     first_next (not (of_kind k l)) Unwanted ((not (formed k l), Shape) ∷ []) (not_from_true (of_kind k l) e) ∙
     first_next (not (formed k l)) Shape [] (not_from_true (formed k l) f)
 

@@ -2,19 +2,18 @@
 use Rattle.std.proofs.Common.{◌≡◌, ℕ, ◌+◌, ◌-◌, ◌*◌, ◌%◌, ◌<◌, Bool, true, false, cond, ◌&&◌, eqb, ltb, leb, List, [], ◌∷◌, ◌++◌, length, get_or, take, drop, sym, refl, ap, ◌∙◌, append_assoc, arith, length-drop}
 use Rattle.std.specs.List.{prefix_len, AllByRecursion}
 use Rattle.std.proofs.lemmas.List.{nil_from_length, drop-drop, drop_more, take-append-drop, length-take-le, take_all}
-use Rattle.std.proofs.lemmas.List.Sums.{prefix_len-le-length}
+use Rattle.std.proofs.lemmas.List.Sums.{prefix_len-le-length, prefix_len_stops}
 use Rattle.std.proofs.lemmas.Bool.{and_parts, or_parts, not-false, eqb-true, leb-true, leb-false, false≢true}
-use Rattle.lines.specs.Digits.{is_digit, passes, hex, spelled, numeral, wide, space, newline}
+use Rattle.lines.specs.Digits.{is_digit, is_inline, hex, spelled, numeral, wide, space, newline}
 use Rattle.lines.specs.Kinds.{kind_number, widths, has_data}
 use Rattle.lines.specs.Lines.{head, lineless, of_kind, formed, kind_of, content_of, data_place}
 use Rattle.lines.specs.RoundTrips.{Rewrites, rest}
 use Rattle.lines.specs.Shapes.{spaced, shaped, reach, values}
 use Rattle.lines.specs.Writing.{fields_text, data_text, written}
-use Rattle.lines.specs.declared.digits.Class.TheVariants.{Inline}
 use Rattle.lines.specs.declared.kind.Kind.{Kind}
-use Rattle.lines.proofs.Fields.{spaced-length}
+use Rattle.lines.proofs.Fields.{spaced_room}
 use Rattle.lines.proofs.Readings.{read_ok}
-use Rattle.lines.proofs.Leads.{all_leading, leading_stop}
+use Rattle.lines.proofs.Leads.{all_leading}
 use Rattle.lines.proofs.Numerals.{hex-spelled, wide-numeral, under_spelled}
 use Rattle.lines.proofs.Spelling.{length-spelled, numeral_single}
 
@@ -29,7 +28,7 @@ spaced-parts k (x ∷ t) e =
 field_text : (w : ℕ) (t : List ℕ) → spaced (2 * w) t ≡ true → hex (wide w (numeral (spelled (take (2 * w) (drop 1 t))))) ≡ take (2 * w) (drop 1 t)
 field_text w t e =
     let ds = take (2 * w) (drop 1 t) in
-    let n : length ds ≡ 2 * w = length-take-le (2 * w) (drop 1 t) (omega (arith, spaced-length (2 * w) t e, length-drop 1 t)) in
+    let n : length ds ≡ 2 * w = length-take-le (2 * w) (drop 1 t) (omega (arith, spaced_room (2 * w) t e, length-drop 1 t)) in
     ap hex (wide-numeral w (spelled ds) (under_spelled ds) (omega (arith, length-spelled ds))) ∙
     hex-spelled ds (spaced-parts (2 * w) t e).1 (omega arith)
 
@@ -92,11 +91,11 @@ written-content_of k l e f =
 -- a line, the byte that closes it, and what follows
 text_parts : (text : List ℕ) → lineless text ≡ false → head text ++ (newline ∷ rest text) ≡ text
 text_parts text e =
-    let n = prefix_len (passes Inline) text in
+    let n = prefix_len is_inline text in
     let q = or_parts (eqb n 0) (leb (length text) n) e in
     let h : n < length text = leb-false (length text) n q.1 in
     let long : length (head text) ≡ n = length-take-le n text (omega arith) in
-    let stop = eqb-true (get_or text n 0) newline (not-false (eqb (get_or text n 0) newline) (leading_stop (passes Inline) text h)) in
+    let stop = eqb-true (get_or text n 0) newline (not-false (eqb (get_or text n 0) newline) (prefix_len_stops is_inline text 0 h)) in
     (λ i. take n text ++ (sym stop i ∷ drop (long i + 1) text)) ∙
     ap (λ l. take n text ++ l) (sym (drop_more text n 0 h)) ∙ take-append-drop n text
 

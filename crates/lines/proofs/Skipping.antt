@@ -1,15 +1,14 @@
 -- The text of one line, cut off from the text behind it, reads as it did there. Assumes nothing.
 use Rattle.std.proofs.Common.{◌≡◌, ℕ, zero, suc, ◌+◌, ◌<◌, ◌≤◌, Bool, true, false, cond, ◌||◌, eqb, leb, List, [], ◌∷◌, length, take, drop, sym, refl, ap, ◌∙◌, ⊎_elim, arith, length-take}
 use Rattle.std.specs.List.{prefix_len}
-use Rattle.std.proofs.lemmas.List.{drop_all, drop-drop, take_all, length-take-le}
+use Rattle.std.proofs.lemmas.List.{drop_all, drop-drop, take_all, take-take, length-take-le}
 use Rattle.std.proofs.lemmas.List.Sums.{prefix_len-le-length}
 use Rattle.std.proofs.lemmas.Bool.{cases_lt, lt-leb}
-use Rattle.lines.specs.Digits.{passes}
+use Rattle.lines.specs.Digits.{is_inline}
 use Rattle.lines.specs.Lines.{head, kind_of, content_of, lineless, line_faults, reading, unless}
 use Rattle.lines.specs.Faults.{first}
 use Rattle.lines.specs.Readers.{Stand, left, line_text, skipped}
 use Rattle.lines.specs.RoundTrips.{rest}
-use Rattle.lines.specs.declared.digits.Class.TheVariants.{Inline}
 use Rattle.lines.specs.declared.fault.Fault.TheVariants.{Absent}
 use Rattle.lines.specs.declared.wanted.Wanted.{Wanted}
 use Rattle.lines.proofs.Cuts.{drop_cut}
@@ -26,45 +25,35 @@ leading_take p (suc k) (x ∷ xs) h = go (p x) refl (leading_take p k xs)
         yes (prefix_len p (take k xs)) ∙ ap (λ n. 1 + n) (ih (omega (arith, yes (prefix_len p xs)))) ∙ sym (yes (prefix_len p xs))
     go false e ih = ap (λ b. cond b (1 + prefix_len p (take k xs)) 0) e ∙ sym (ap (λ b. cond b (1 + prefix_len p xs) 0) e)
 
--- shorter fronts of a front
-pub take_take_le : (j k : ℕ) (xs : List ℕ) → j ≤ k → take j (take k xs) ≡ take j xs
-take_take_le zero k xs h = refl
-take_take_le (suc j) zero xs h = absurd (omega arith)
-take_take_le (suc j) (suc k) [] h = refl
-take_take_le (suc j) (suc k) (x ∷ xs) h = ap (λ l. x ∷ l) (take_take_le j k xs (omega arith))
-
 module _ (text : List ℕ) where
-  pub head_length : length (head text) ≡ prefix_len (passes Inline) text
-  head_length = length-take-le (prefix_len (passes Inline) text) text (prefix_len-le-length (passes Inline) text)
+  pub head_length : length (head text) ≡ prefix_len is_inline text
+  head_length = length-take-le (prefix_len is_inline text) text (prefix_len-le-length is_inline text)
 
-  pub leading_line : prefix_len (passes Inline) (line_text text) ≡ prefix_len (passes Inline) text
-  leading_line = leading_take (passes Inline) (length (head text) + 1) text (omega (arith, head_length))
+  pub leading_line : prefix_len is_inline (line_text text) ≡ prefix_len is_inline text
+  leading_line = leading_take is_inline (length (head text) + 1) text (omega (arith, head_length))
 
   pub head_line : head (line_text text) ≡ head text
   head_line =
       ap (λ k. take k (line_text text)) leading_line
-      ∙ take_take_le (prefix_len (passes Inline) text) (length (head text) + 1) text (omega (arith, head_length))
+      ∙ take-take (prefix_len is_inline text) (length (head text) + 1) text (omega (arith, head_length))
 
-  -- it is all of the text, or as much as is counted and the byte that closes it
-  pub line_cut : (k : ℕ) → prefix_len (passes Inline) text ≡ k → k < length text → take (k + 1) text ≡ line_text text
-  line_cut k e h = ap (λ j. take (j + 1) text) (sym (head_length ∙ e))
-
-  pub line_whole : (k : ℕ) → prefix_len (passes Inline) text ≡ k → length text ≤ k → text ≡ line_text text
+  -- where nothing closes it, it is all of the text
+  pub line_whole : (k : ℕ) → prefix_len is_inline text ≡ k → length text ≤ k → text ≡ line_text text
   line_whole k e h = sym (take_all (length (head text) + 1) text (omega (arith, head_length, e)))
 
   -- the line is absent, or its numbers are the same
   lineless-line : lineless (line_text text) ≡ lineless text
-  lineless-line = (λ i. eqb (leading_line i) 0 || leb (length (line_text text)) (leading_line i)) ∙ ap (λ b. eqb (prefix_len (passes Inline) text) 0 || b) both
+  lineless-line = (λ i. eqb (leading_line i) 0 || leb (length (line_text text)) (leading_line i)) ∙ ap (λ b. eqb (prefix_len is_inline text) 0 || b) both
     where
-      both : leb (length (line_text text)) (prefix_len (passes Inline) text) ≡ leb (length text) (prefix_len (passes Inline) text)
+      both : leb (length (line_text text)) (prefix_len is_inline text) ≡ leb (length text) (prefix_len is_inline text)
       both =
           ⊎_elim
-          (λ (h : prefix_len (passes Inline) text < length text).
-          lt-leb (length (line_text text)) (prefix_len (passes Inline) text) (omega (arith, head_length, length-take-le (length (head text) + 1) text (omega (arith, head_length, h))))
-          ∙ sym (lt-leb (length text) (prefix_len (passes Inline) text) h))
-          (λ (h : length text ≤ prefix_len (passes Inline) text).
-          ap (λ l. leb (length l) (prefix_len (passes Inline) text)) (sym (line_whole (prefix_len (passes Inline) text) refl h)))
-          (cases_lt (prefix_len (passes Inline) text) (length text))
+          (λ (h : prefix_len is_inline text < length text).
+          lt-leb (length (line_text text)) (prefix_len is_inline text) (omega (arith, head_length, length-take-le (length (head text) + 1) text (omega (arith, head_length, h))))
+          ∙ sym (lt-leb (length text) (prefix_len is_inline text) h))
+          (λ (h : length text ≤ prefix_len is_inline text).
+          ap (λ l. leb (length l) (prefix_len is_inline text)) (sym (line_whole (prefix_len is_inline text) refl h)))
+          (cases_lt (prefix_len is_inline text) (length text))
 
   pub reading_line : (w : Wanted) → reading w (line_text text) ≡ reading w text
   reading_line w i = unless (first ((lineless-line i, Absent) ∷ line_faults w (head_line i))) (content_of (kind_of w) (head_line i))

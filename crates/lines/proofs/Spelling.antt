@@ -1,5 +1,6 @@
 -- Bytes spelled by two digits each. Assumes nothing.
 use Rattle.std.proofs.Common.{◌≡◌, ℕ, zero, suc, ◌+◌, ◌-◌, ◌*◌, ◌/◌, ◌%◌, ◌<◌, ◌≤◌, List, [], ◌∷◌, ◌++◌, length, get_or, sym, refl, ap, zero-add, arith}
+use Rattle.std.proofs.lemmas.List.{get_or_past}
 use Rattle.lines.specs.Digits.{digit_value, digit_of, hex, spelled, numeral, wide}
 
 pub length-spelled : (ds : List ℕ) → length (spelled ds) ≡ length ds / 2
@@ -37,3 +38,6 @@ wide_step zero n h = absurd (omega arith)
 wide_step (suc w) n h =
     let e : w ≡ suc w - 1 = omega arith in
     ap (λ k. wide k (n / 256) ++ (n % 256 ∷ [])) e
+
+-- how many numbers digits spell, and which
+pub ruleset spelling = (length-spelled, slice_index-spelled, get_or_past)

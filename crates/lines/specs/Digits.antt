@@ -1,8 +1,6 @@
--- Capital hexadecimal digits, two to a byte, and how far a text keeps to a class of bytes. Assumes nothing.
+-- Capital hexadecimal digits, two to a byte, and the bytes of a line. Assumes nothing.
 use Rattle.std.specs.Prelude.{ℕ, zero, suc, ◌+◌, ◌-◌, ◌*◌, ◌/◌, ◌%◌, Bool, cond, not, ◌&&◌, ◌||◌, List, [], ◌∷◌, ◌++◌, ◌==◌, nat_le, nat_lt}
 use Rattle.std.specs.Int.Digits.{number_from_digits}
-use Rattle.lines.specs.declared.digits.Class.{Class}
-use Rattle.lines.specs.declared.digits.Class.TheVariants.{Inline, Sound, Digit}
 
 -- the byte that closes a line, and the byte between two fields
 abbrev pub newline : ℕ
@@ -23,11 +21,13 @@ digit_value b = cond (nat_le 0x30 b && nat_le b 0x39) (b - 0x30) (cond (nat_le 0
 abbrev pub digit_of : ℕ → ℕ
 digit_of d = cond (nat_lt d 10) (0x30 + d) (0x37 + d)
 
--- the bytes of a class: those that stand in a line, those that may, the digits
-abbrev pub passes : Class → ℕ → Bool
-passes Inline b = not (b == newline)
-passes Sound b = is_digit b || b == space
-passes Digit b = is_digit b
+-- the bytes that stand in a line: all but the one that closes it
+abbrev pub is_inline : ℕ → Bool
+is_inline b = not (b == newline)
+
+-- the bytes that may stand in a line: digits and spaces
+abbrev pub is_sound : ℕ → Bool
+is_sound b = is_digit b || b == space
 
 -- the digits of bytes, two each, the higher first
 abbrev pub hex : List ℕ → List ℕ

@@ -2,6 +2,7 @@
 pub mod Digits
 pub mod Kinds
 pub mod Shapes
+pub mod Parts
 pub mod Faults
 pub mod Lines
 pub mod Readers

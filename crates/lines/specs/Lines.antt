@@ -1,11 +1,10 @@
 -- What reading a text gives: the line at its head as numbers, or the first fault that holds. Assumes nothing.
 use Rattle.std.specs.Prelude.{◌≡◌, ℕ, ◌+◌, ◌-◌, ◌*◌, ◌/◌, Bool, true, false, cond, not, ◌&&◌, ◌||◌, List, [], ◌∷◌, ◌++◌, length, take, drop, Some, None, Ok, Err, Option, Result, ◌==◌, nat_le, nat_lt, slice_index}
 use Rattle.std.specs.List.{prefix_len}
-use Rattle.lines.specs.Digits.{passes, is_digit, spelled, numeral}
+use Rattle.lines.specs.Digits.{is_inline, is_sound, is_digit, spelled, numeral}
 use Rattle.lines.specs.Faults.{first}
 use Rattle.lines.specs.Kinds.{kind_number, widths, has_data, mark_bytes}
 use Rattle.lines.specs.Shapes.{shaped, reach, values}
-use Rattle.lines.specs.declared.digits.Class.TheVariants.{Inline, Sound}
 use Rattle.lines.specs.declared.fault.Fault.{Fault}
 use Rattle.lines.specs.declared.fault.Fault.TheVariants.{Absent, Byte, Unwanted, Shape, Limits, Length}
 use Rattle.lines.specs.declared.kind.Kind.{Kind}
@@ -24,15 +23,15 @@ pub record Content : Type 0 where
 
 -- the line at the head of a text, without the byte that closes it
 abbrev pub head : List ℕ → List ℕ
-head text = take (prefix_len (passes Inline) text) text
+head text = take (prefix_len is_inline text) text
 
 -- no byte before the closing one, or no closing one at all
 abbrev pub lineless : List ℕ → Bool
-lineless text = prefix_len (passes Inline) text == 0 || nat_le (length text) (prefix_len (passes Inline) text)
+lineless text = prefix_len is_inline text == 0 || nat_le (length text) (prefix_len is_inline text)
 
 -- how far a line has only bytes that a line may have
 abbrev pub sound_to : List ℕ → ℕ
-sound_to l = prefix_len (passes Sound) l
+sound_to l = prefix_len is_sound l
 
 -- the first field is two digits that spell the kind's number
 abbrev pub of_kind : Kind → List ℕ → Bool

@@ -10,11 +10,12 @@ use crate::write::put_line;
 use std::alloc::{AllocError, Global};
 use std::fmt;
 
-// The line number of a refusal that no line is to blame for.
+// What is written for the line number of a refusal that no line is to blame for.
 pub const NO_LINE: u16 = 0xffff;
 
 // The numbers of a line to write.
-#[derive(Clone, Copy)]
+// Stays: a field is named by its mark, the byte of the format, since lines know no fields.
+#[derive(Clone, Copy, PartialEq, Eq, Debug)]
 pub enum Entry<'a> {
     Plan {
         field: u8,
@@ -40,11 +41,12 @@ pub enum Entry<'a> {
     Dummy {
         numbers: &'a [u8],
     },
-    // A refusal's number, what it carries, and the line at fault or NO_LINE.
+    // A refusal's number, what it carries, and the line at fault, if there is one.
+    // Stays: the refusals are those of the crates above, so a line knows them by what it writes.
     Refusal {
         number: u8,
         carries: u16,
-        line: u16,
+        line: Option<u16>,
     },
 }
 
@@ -85,6 +87,7 @@ impl fmt::Display for Entry<'_> {
                 carries,
                 line,
             } => {
+                let line = line.unwrap_or(NO_LINE);
                 let values = [Wide::from(number), Wide::from(carries), Wide::from(line)];
                 put_line(f, Kind::Refusal, &values, &[])
             }

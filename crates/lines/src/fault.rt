@@ -28,7 +28,7 @@ impl Fault {
     {
         match self {
             Fault::Absent => 0x40,
-            Fault::Byte { place: _ } => 0x41,
+            Fault::Byte { .. } => 0x41,
             Fault::Unwanted => 0x42,
             Fault::Shape => 0x43,
             Fault::Limits => 0x44,

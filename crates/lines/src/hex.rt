@@ -1,36 +1,30 @@
 // Bytes that are shown as two capital hexadecimal digits each.
 ghost use Rattle.lines.specs.Digits.{hex, wide};
-ghost use Rattle.std.specs.Prelude.{[], ◌∷◌, Some};
 ghost use Rattle.std.specs.Fmt.{WritesOnOk};
+ghost use Rattle.std.specs.Prelude.{[], ◌∷◌};
 
-use crate::digits::digit_of;
 use std::fmt;
 
-// One byte.
-#[derive(Clone, Copy)]
-pub(crate) struct HexByte(pub(crate) u8);
-
-impl fmt::Display for HexByte {
-    ghost output = { λ x. Some (hex (x.0 ∷ [])) };
-
-    fn fmt<W: fmt::Write>(&self, f: &mut fmt::Formatter<W>) -> fmt::Result {
-        let high = char::from(digit_of(self.0 / 16));
-        let low = char::from(digit_of(self.0 % 16));
-        write!(f, "{high}{low}")
-    }
+// Writes one byte.
+#[tactic(auto, using(std::proofs::lemmas::Fmt::hex_byte))]
+pub(crate) fn put_byte<W: fmt::Write>(f: &mut fmt::Formatter<W>, byte: u8) -> fmt::Result
+    ensures { WritesOnOk W.write_str_gives f.old result (hex (byte ∷ [])) f.new }
+{
+    write!(f, "{byte:02X}")
 }
 
 // Writes bytes, one after the other.
 pub(crate) fn put_bytes<W: fmt::Write>(f: &mut fmt::Formatter<W>, bytes: &[u8]) -> fmt::Result
     ensures { WritesOnOk W.write_str_gives f.old result (hex bytes.now) f.new }
 {
-    for b in bytes {
-        f.write_fmt(HexByte(*b))?;
+    for byte in bytes {
+        put_byte(f, *byte)?;
     }
     Ok(())
 }
 
 // Writes the lowest bytes of a number, as many as the width says, the highest first.
+// Stays: a width in the format pads a number and does not cut it, so each caller would have to show that the number fits.
 pub(crate) fn put_number<W: fmt::Write>(
     f: &mut fmt::Formatter<W>,
     width: u8,
@@ -42,5 +36,5 @@ pub(crate) fn put_number<W: fmt::Write>(
         return Ok(());
     }
     put_number(f, width - 1, value / 256)?;
-    f.write_fmt(HexByte((value % 256) as u8))
+    put_byte(f, (value % 256) as u8)
 }

@@ -5,7 +5,7 @@ ghost use Rattle.std.specs.Prelude.{◌≡◌};
 use crate::mark::MARK_BYTES;
 
 // What a line can be.
-#[derive(Clone, Copy)]
+#[derive(Clone, Copy, PartialEq, Eq, Debug)]
 pub enum Kind {
     // Threshold and number of cards of a plan.
     Plan,
@@ -54,13 +54,6 @@ impl Kind {
     pub fn has_data(self) -> bool
         ensures { result ≡ has_data self }
     {
-        match self {
-            Kind::Plan => false,
-            Kind::Row => true,
-            Kind::Card => true,
-            Kind::Key => true,
-            Kind::Dummy => true,
-            Kind::Refusal => false,
-        }
+        matches!(self, Kind::Row | Kind::Card | Kind::Key | Kind::Dummy)
     }
 }

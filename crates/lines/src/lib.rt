@@ -22,7 +22,7 @@ pub use fault::Fault;
 pub use kind::Kind;
 pub use line::Line;
 pub use mark::{DealMark, MARK_BYTES, MarkNumber};
-pub use part::Part;
+pub use part::{Numbers, Part};
 pub use reader::{LONGEST_TEXT, Reader};
 pub use trips::{round_trips, worked_lines};
 pub use wanted::Wanted;

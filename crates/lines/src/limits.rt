@@ -11,15 +11,11 @@ pub(crate) const LONGEST_KEY: u8 = 64;
 pub(crate) fn is_among(mark: u8, marks: &[u8]) -> bool
     ensures { result ≡ among mark marks.now }
 {
-    for m in marks {
-        if mark == *m {
-            return true;
-        }
-    }
-    false
+    marks.contains(&mark)
 }
 
 // Whether t and n can be threshold and number of cards.
+// Stays: the field crate has the same test, but what reads lines stands on no field.
 pub(crate) fn is_planned(t: u8, n: u8) -> bool
     ensures { result ≡ planned t n }
 {
@@ -47,7 +43,5 @@ pub(crate) fn padded_size(t: u8, size: u8) -> usize
     if t == 0 {
         return 0;
     }
-    let t = usize::from(t);
-    let lanes = (usize::from(size) + (t - 1)) / t;
-    t * lanes
+    usize::from(size).next_multiple_of(usize::from(t))
 }

@@ -2,7 +2,7 @@
 use crate::part::Part;
 
 // The numbers of a line; deal mark and data are parts of the text.
-#[derive(Clone, Copy)]
+#[derive(Clone, Copy, PartialEq, Eq, Debug)]
 pub enum Line<'a> {
     Plan {
         field: u8,

@@ -22,10 +22,9 @@ impl DealMark {
     pub fn of(part: Part<'_>) -> DealMark
         ensures { result.number ≡ numeral (take mark_bytes (spelled part.entry.digits.now)) }
     {
-        let n = part.count().min(usize::from(MARK_BYTES));
         let mut number: MarkNumber = 0;
-        for i in 0..n {
-            number = number * 256 + MarkNumber::from(part.number(i));
+        for byte in part.numbers().take(usize::from(MARK_BYTES)) {
+            number = number * 256 + MarkNumber::from(byte);
         }
         DealMark { number }
     }

@@ -1,23 +1,36 @@
 // A field of a line, where it lies in the text.
 ghost use Rattle.lines.specs.Digits.{numeral, spelled};
-ghost use Rattle.std.specs.Prelude.{◌≡◌, length, take, drop, slice_index};
+ghost use Rattle.lines.specs.Parts.{coming};
+ghost use Rattle.std.specs.Iterator.{YieldsFirst, item_count};
+ghost use Rattle.std.specs.Prelude.{◌≡◌, ◌<◌, ◌^◌, length, take, drop, slice_index};
 
 use crate::digits::digit_value;
 
 // The digits of a field, and where in the line they begin.
-#[derive(Clone, Copy)]
+#[derive(Clone, Copy, PartialEq, Eq, Debug)]
 pub struct Part<'a> {
     pub place: usize,
     pub digits: &'a [u8],
 }
 
-impl Part<'_> {
+#[tactic(auto, using(crate::proofs::Spelling::spelling))]
+impl<'a> Part<'a> {
     // How many numbers the digits spell.
     pub fn count(&self) -> usize
         ensures { result ≡ length (spelled self.now.digits.now) }
     {
         let digits = self.digits.len();
         digits / 2
+    }
+
+    // The numbers of the field, one after the other.
+    pub fn numbers(&self) -> Numbers<'a>
+        ensures numbers { coming result ≡ spelled self.now.digits.now }
+        ensures bound { length (coming result) < 2 ^ 63 }
+    {
+        Numbers {
+            digits: self.digits,
+        }
     }
 
     // Number k of the field, 0 past its end.
@@ -28,6 +41,27 @@ impl Part<'_> {
             return 0;
         }
         digit_value(self.digits[2 * k]) * 16 + digit_value(self.digits[2 * k + 1])
+    }
+}
+
+// The numbers that digits spell, two digits each.
+#[derive(Drop)]
+pub struct Numbers<'a> {
+    digits: &'a [u8],
+}
+
+impl Iterator for Numbers<'_> {
+    type Item = u8;
+
+    ghost next_gives = { YieldsFirst coming };
+
+    ghost remaining = { item_count coming };
+
+    fn next(&mut self) -> Option<u8> {
+        let (high, digits) = self.digits.split_first()?;
+        let (low, digits) = digits.split_first()?;
+        self.digits = digits;
+        Some(digit_value(*high) * 16 + digit_value(*low))
     }
 }
 

@@ -4,7 +4,7 @@ ghost use Rattle.lines.specs.Faults.{first};
 ghost use Rattle.lines.specs.Lines.{content_of, formed, head, judged, kind_of, line_faults, lineless, of_kind, parts, parts_of, text_faults, told, unless};
 ghost use Rattle.lines.specs.Readers.{line_text};
 
-use crate::digits::{Class, front};
+use crate::digits::{closing_place, digits_at_front, unsound_place};
 use crate::fault::Fault;
 use crate::kind::Kind;
 use crate::limits::{LONGEST_KEY, is_among, is_dealt, is_planned, padded_size};
@@ -21,22 +21,19 @@ const MARK_DIGITS: usize = 2 * MARK_BYTES as usize;
 pub(crate) fn head_of(text: &[u8]) -> Option<&[u8]>
     ensures { MatchOption result (lineless text.now ≡ true) (λ l. (lineless text.now ≡ false) × (l.now ≡ head text.now) × (length l.now < length text.now)) }
 {
-    let n = front(text, Class::Inline);
-    if n == 0 || text.len() <= n {
-        return None;
+    match closing_place(text) {
+        None | Some(0) => None,
+        Some(n) => Some(&text[..n]),
     }
-    Some(&text[0..n])
 }
 
 // The line at the head of a text, with the byte that closes it; the whole text where nothing closes it.
 pub(crate) fn line_text(text: &[u8]) -> &[u8]
     ensures { result.now ≡ line_text text.now }
 {
-    let n = front(text, Class::Inline);
-    if n < text.len() {
-        &text[0..n + 1]
-    } else {
-        text
+    match closing_place(text) {
+        Some(n) => &text[..=n],
+        None => text,
     }
 }
 
@@ -44,7 +41,7 @@ pub(crate) fn line_text(text: &[u8]) -> &[u8]
 fn is_of_kind(line: &[u8], kind: Kind) -> bool
     ensures { result ≡ of_kind kind line.now }
 {
-    front(line, Class::Digit) == 2 && byte_at(line, 0) == kind.number()
+    digits_at_front(line) == 2 && byte_at(line, 0) == kind.number()
 }
 
 // Whether the kind's fields and data follow.
@@ -54,21 +51,20 @@ fn is_formed(line: &[u8], kind: Kind) -> bool
     is_shaped(tail_at(line, 2).digits, kind.widths(), kind.has_data())
 }
 
-// The first fault of a line's text.
-fn text_fault(line: &[u8], kind: Kind) -> Option<Fault>
-    ensures { result ≡ first (text_faults kind line.now) }
+// That a line's text has no fault, or the first that it has.
+fn check_text(line: &[u8], kind: Kind) -> Result<(), Fault>
+    ensures { result ≡ unless (first (text_faults kind line.now)) tt }
 {
-    let place = front(line, Class::Sound);
-    if place < line.len() {
-        return Some(Fault::Byte { place });
+    if let Some(place) = unsound_place(line) {
+        return Err(Fault::Byte { place });
     }
     if !is_of_kind(line, kind) {
-        return Some(Fault::Unwanted);
+        return Err(Fault::Unwanted);
     }
     if !is_formed(line, kind) {
-        return Some(Fault::Shape);
+        return Err(Fault::Shape);
     }
-    None
+    Ok(())
 }
 
 // A plan over a field with one of the marks.
@@ -170,8 +166,6 @@ pub(crate) fn checked_line<'a>(line: &'a [u8], wanted: Wanted<'_>) -> Result<Lin
     ensures told { told result ≡ unless (first (line_faults wanted.entry line.now)) (content_of (kind_of wanted.entry) line.now) }
     ensures parts { IfOk result (λ l. parts l ≡ parts_of (kind_of wanted.entry) line.now) }
 {
-    match text_fault(line, wanted.kind()) {
-        Some(fault) => Err(fault),
-        None => line_of(line, wanted),
-    }
+    check_text(line, wanted.kind())?;
+    line_of(line, wanted)
 }

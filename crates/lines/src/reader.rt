@@ -1,9 +1,5 @@
 // A reader over lent text, which steps from line to line.
-ghost use Rattle.std.specs.Prelude.{◌≡◌, ◌≤◌, ◌++◌, length, is_ok, IfOk, IfErr, if◌then◌else◌};
-ghost use Rattle.lines.specs.Faults.{fault_carries};
-ghost use Rattle.lines.specs.Lines.{Kept, content, head, kind_of, parts, parts_of, reading, told};
-ghost use Rattle.lines.specs.Readers.{ending, left, line_text, opened, opening, skipped, standing, stepped};
-ghost use Rattle.lines.specs.Writing.{written};
+ghost use Rattle.std.specs.Prelude.{◌≤◌, length};
 
 use crate::fault::Fault;
 use crate::line::Line;
@@ -20,9 +16,17 @@ pub struct Reader<'a> {
     text: &'a [u8],
     start: usize,
     number: usize,
+    // The text is not too long.
+    pub ghost short: { length text.now ≤ 4096 },
 }
 
 impl<'a> Reader<'a> {
+    ghost use Rattle.std.specs.Prelude.{◌≡◌, ◌≤◌, ◌++◌, length, is_ok, IfOk, IfErr, if◌then◌else◌};
+    ghost use Rattle.lines.specs.Faults.{fault_carries};
+    ghost use Rattle.lines.specs.Lines.{Kept, content, head, kind_of, parts, parts_of, reading, told};
+    ghost use Rattle.lines.specs.Readers.{ending, left, line_text, opened, opening, skipped, standing, stepped};
+    ghost use Rattle.lines.specs.Writing.{written};
+
     // A reader at the start of a text that is not too long.
     pub fn new(text: &'a [u8]) -> Result<Reader<'a>, Fault>
         ensures { opened result ≡ opening text.now }
@@ -61,18 +65,11 @@ impl<'a> Reader<'a> {
         ensures bound { IfErr result (λ f. fault_carries f ≤ length (left (standing self.old))) }
         ensures again { IfOk result (λ l. written (content l) ++ left (standing self.new) ≡ left (standing self.old)) }
     {
-        let Some(line) = head_of(self.rest()) else {
-            return Err(Fault::Absent);
-        };
-        let n = line.len();
-        match checked_line(line, wanted) {
-            Ok(made) => {
-                self.start += n + 1;
-                self.number = self.number.saturating_add(1);
-                Ok(made)
-            }
-            Err(fault) => Err(fault),
-        }
+        let line = head_of(self.rest()).ok_or(Fault::Absent)?;
+        let made = checked_line(line, wanted)?;
+        self.start += line.len() + 1;
+        self.number = self.number.saturating_add(1);
+        Ok(made)
     }
 
     // The text of the next line with the byte that closes it, or all that is left where nothing closes it. The reader steps
@@ -91,7 +88,7 @@ impl<'a> Reader<'a> {
     pub fn end(&self) -> Result<(), Fault>
         ensures { result ≡ ending (left (standing self.now)) }
     {
-        if self.rest().len() > 0 {
+        if !self.rest().is_empty() {
             return Err(Fault::Excess);
         }
         Ok(())

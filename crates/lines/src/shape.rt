@@ -2,16 +2,16 @@
 ghost use Rattle.lines.specs.Shapes.{shaped, spaced};
 ghost use Rattle.std.specs.Prelude.{◌≡◌, true, []};
 
-use crate::digits::{Class, front};
+use crate::digits::digits_at_front;
 
 // Whether the text begins with a space and so many digits.
 fn is_spaced(text: &[u8], digits: usize) -> bool
     ensures { result ≡ spaced digits text.now }
 {
-    if text.len() == 0 || text[0] != b' ' {
-        return false;
+    match text {
+        [b' ', rest @ ..] => digits <= digits_at_front(rest),
+        _ => false,
     }
-    digits <= front(&text[1..], Class::Digit)
 }
 
 // Whether the text is data: a space and an even number of digits, not none.
@@ -23,20 +23,17 @@ fn is_data(text: &[u8]) -> bool
 }
 
 // Whether the text is a field of each width, then data if there is to be any, and nothing else.
+#[tactic(auto, using(crate::proofs::Fields::spaced_room))]
 pub(crate) fn is_shaped(text: &[u8], widths: &[u8], data: bool) -> bool
     ensures { result ≡ shaped widths.now «data» text.now }
 {
-    let mut at = 0;
-    for w in widths {
-        let digits = 2 * usize::from(*w);
-        if !is_spaced(&text[at..], digits) {
+    let mut rest = text;
+    for width in widths {
+        let digits = 2 * usize::from(*width);
+        if !is_spaced(rest, digits) {
             return false;
         }
-        at += 1 + digits;
+        rest = &rest[1 + digits..];
     }
-    if data {
-        is_data(&text[at..])
-    } else {
-        at == text.len()
-    }
+    if data { is_data(rest) } else { rest.is_empty() }
 }

@@ -5,7 +5,7 @@ ghost use Rattle.std.specs.Prelude.{◌≡◌};
 use crate::kind::Kind;
 
 // A kind of line, with what its numbers are held to.
-#[derive(Clone, Copy)]
+#[derive(Clone, Copy, PartialEq, Eq, Debug)]
 pub enum Wanted<'m> {
     // A plan over a field with one of these marks.
     Plan { marks: &'m [u8] },
@@ -55,11 +55,11 @@ impl Wanted<'_> {
         ensures { result ≡ kind_of self.now }
     {
         match self {
-            Self::Plan { marks: _ } => Kind::Plan,
-            Self::Row { t: _ } => Kind::Row,
-            Self::Card { mark: _ } => Kind::Card,
+            Self::Plan { .. } => Kind::Plan,
+            Self::Row { .. } => Kind::Row,
+            Self::Card { .. } => Kind::Card,
             Self::Key => Kind::Key,
-            Self::Dummy { t: _, size: _ } => Kind::Dummy,
+            Self::Dummy { .. } => Kind::Dummy,
         }
     }
 }

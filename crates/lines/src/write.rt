@@ -4,18 +4,22 @@ ghost use Rattle.lines.specs.Writing.{data_text, fields_text, written};
 ghost use Rattle.std.specs.Fmt.{WritesOnOk};
 ghost use Rattle.std.specs.Prelude.{◌≡◌, length};
 
-use crate::hex::{HexByte, put_bytes, put_number};
+use crate::hex::{put_byte, put_bytes, put_number};
 use crate::kind::Kind;
 use std::fmt;
 
 // Writes one field of each width.
-fn put_fields<W: fmt::Write>(f: &mut fmt::Formatter<W>, sizes: &[u8], values: &[u32]) -> fmt::Result
-    requires { length values.now ≡ length sizes.now }
-    ensures { WritesOnOk W.write_str_gives f.old result (fields_text sizes.now values.now) f.new }
+fn put_fields<W: fmt::Write>(
+    f: &mut fmt::Formatter<W>,
+    widths: &[u8],
+    values: &[u32],
+) -> fmt::Result
+    requires { length values.now ≡ length widths.now }
+    ensures { WritesOnOk W.write_str_gives f.old result (fields_text widths.now values.now) f.new }
 {
-    for i in 0..sizes.len() {
+    for (width, value) in widths.iter().zip(values) {
         f.write_char(' ')?;
-        put_number(f, sizes[i], values[i])?;
+        put_number(f, *width, *value)?;
     }
     Ok(())
 }
@@ -41,7 +45,7 @@ pub(crate) fn put_line<W: fmt::Write>(
     requires { length values.now ≡ length (widths kind) }
     ensures { WritesOnOk W.write_str_gives f.old result (written (record { kind = kind; fields = values.now; numbers = numbers.now })) f.new }
 {
-    f.write_fmt(HexByte(kind.number()))?;
+    put_byte(f, kind.number())?;
     put_fields(f, kind.widths(), values)?;
     put_data(f, kind, numbers)?;
     f.write_char('\n')

@@ -3,20 +3,20 @@
 
 #[cfg(test)]
 mod tests {
-    use lines::{DealMark, Entry, Line, Reader, Wanted};
+    use lines::{DealMark, Entry, Fault, Line, Part, Reader, Wanted};
     use std::process::Abort;
     use std::test::Fail;
 
+    // Reads a text with one line wanted, and nothing after it.
+    fn read_alone(text: &[u8], wanted: Wanted<'_>) -> Result<(), Fault> {
+        let mut reader = Reader::new(text)?;
+        reader.read(wanted)?;
+        reader.end()
+    }
+
     // The number and the carried place of the fault of a text with one line wanted, 0 and 0 if there is none.
     fn fault_of(text: &[u8], wanted: Wanted<'_>) -> (u8, usize) {
-        let mut reader = match Reader::new(text) {
-            Ok(reader) => reader,
-            Err(fault) => return (fault.number(), fault.carries()),
-        };
-        if let Err(fault) = reader.read(wanted) {
-            return (fault.number(), fault.carries());
-        }
-        match reader.end() {
+        match read_alone(text, wanted) {
             Ok(()) => (0, 0),
             Err(fault) => (fault.number(), fault.carries()),
         }
@@ -189,40 +189,54 @@ mod tests {
     fn lines_one_after_the_other(rt: HostRuntime) -> Result<(), Fail> {
         let mut reader = Reader::new(b"01 01 02 03\n02 8DF6\n04 0000002A 1234\n")?;
         assert_eq!(rt; reader.number(), 0);
-        let mut seen = 0;
-        if let Line::Plan { field, t, n } = reader.read(Wanted::Plan { marks: &[1] })? {
-            seen += 1;
-            assert_eq!(rt; field, 1);
-            assert_eq!(rt; t, 2);
-            assert_eq!(rt; n, 3);
-        }
+        let plan = Line::Plan {
+            field: 1,
+            t: 2,
+            n: 3,
+        };
+        assert_eq!(rt; reader.read(Wanted::Plan { marks: &[1] })?, plan);
         assert!(rt; reader.read(Wanted::a_row(3)).is_err());
         assert_eq!(rt; reader.number(), 1);
-        if let Line::Row { data } = reader.read(Wanted::a_row(2))? {
-            seen += 1;
-            assert_eq!(rt; data.place, 3);
-            assert_eq!(rt; data.count(), 2);
-            assert_eq!(rt; data.number(0), 0x8d);
-            assert_eq!(rt; data.number(1), 0xf6);
-            assert_eq!(rt; data.number(2), 0);
-        }
-        assert_eq!(rt; seen, 2);
+        let data = Part {
+            place: 3,
+            digits: b"8DF6",
+        };
+        assert_eq!(rt; reader.read(Wanted::a_row(2))?, Line::Row { data });
+        assert_eq!(rt; data.count(), 2);
+        assert_eq!(rt; data.number(0), 0x8d);
+        assert_eq!(rt; data.number(1), 0xf6);
+        assert_eq!(rt; data.number(2), 0);
         Ok(())
+    }
+
+    // A last single digit spells no number.
+    #[test]
+    fn numbers_of_a_part(rt: HostRuntime) {
+        let part = Part {
+            place: 3,
+            digits: b"8DF60",
+        };
+        let mut numbers = part.numbers();
+        assert_eq!(rt; numbers.next(), Some(0x8d));
+        assert_eq!(rt; numbers.next(), Some(0xf6));
+        assert_eq!(rt; numbers.next(), None);
     }
 
     #[test]
     fn a_key_with_its_mark(rt: HostRuntime) -> Result<(), Fail> {
         let mut reader = Reader::new(b"04 DEADBEEF 1234\n")?;
-        let mut seen = 0;
-        if let Line::Key { mark, data } = reader.read(Wanted::a_key())? {
-            seen += 1;
-            assert_eq!(rt; mark.place, 3);
-            assert_eq!(rt; data.place, 12);
-            assert_eq!(rt; DealMark::of(mark).number, 0xdead_beef);
-        }
+        let mark = Part {
+            place: 3,
+            digits: b"DEADBEEF",
+        };
+        let data = Part {
+            place: 12,
+            digits: b"1234",
+        };
+        assert_eq!(rt; reader.read(Wanted::a_key())?, Line::Key { mark, data });
+        assert_eq!(rt; DealMark::of(mark).number, 0xdead_beef);
         assert!(rt; reader.end().is_ok());
         assert_eq!(rt; reader.number(), 1);
-        assert_eq!(rt; seen, 1);
         Ok(())
     }
 
@@ -265,7 +279,7 @@ mod tests {
         let refusal = Entry::Refusal {
             number: 0x16,
             carries: 5,
-            line: lines::NO_LINE,
+            line: None,
         };
         assert_eq!(rt; refusal.text(heap)?.as_str(), "0F 16 0005 FFFF\n");
         Ok(())

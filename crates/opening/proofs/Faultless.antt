@@ -1,5 +1,5 @@
 -- What is known of the inputs where no line of the table holds, and that none holds of sound inputs. Assumes nothing.
-use Rattle.std.proofs.Common.{◌≡◌, ℕ, ◌*◌, ◌<◌, ◌≤◌, Bool, true, false, cond, not, ◌&&◌, eqb, ltb, leb, List, [], ◌∷◌, ◌++◌, length, get_or, is_some, Some, None, unwrap_or, sym, refl, ap, ◌∙◌}
+use Rattle.std.proofs.Common.{◌≡◌, ℕ, ◌*◌, ◌<◌, ◌≤◌, Bool, true, false, cond, not, ◌&&◌, eqb, ltb, leb, List, [], ◌∷◌, ◌++◌, length, get_or, is_some, Some, None, unwrap_or, sym, refl, ap, ◌∙◌, arith}
 use Rattle.std.specs.Option.{option_map}
 use Rattle.std.proofs.lemmas.Bool.{ltb-true, leb-true, eqb-true, eqb-false, lt-ltb, le-ltb, le-leb, eq-eqb, ne_eqb, and_parts, and_from, not-false}
 use Rattle.field.specs.Codes.{Operations, first}
@@ -11,7 +11,9 @@ use Rattle.plan_check.specs.Faults.{faults, no_code, first_no_code}
 use Rattle.plan_check.proofs.Faults.{some_none, none_missing, passed, passed_both, passed_on, sound_faultless, faultless_sound}
 use Rattle.plan_check.proofs.First.{first_nothing}
 use Rattle.opening.specs.Answers.{Different}
+use Rattle.opening.specs.Quorums.{Fits}
 use Rattle.opening.specs.Tables.{stands, first_beyond, first_twice, number_at, data_place, room, cards_table, data_table, inputs_table, table}
+use Rattle.opening.proofs.Limits.{lanes_some, lanes_few}
 
 -- the foremost line of a table stays foremost where lines come after it
 pub foremost-kept : (xs ys : List Rule) (z : ℕ × ℕ) → foremost xs ≡ Some z → foremost (xs ++ ys) ≡ Some z
@@ -132,9 +134,9 @@ module _ (o : Operations) (p : Plan) (cards «data» : List ℕ) (L place worksp
   abbrev of_place : Rule
   of_place = (0x36, not (eqb place L), 0)
 
-  pub faultless : foremost (inputs_table o p cards «data» L place) ≡ None → Faultless
+  pub faultless : None ≡ foremost (inputs_table o p cards «data» L place) → Faultless
   faultless e =
-      let plan = passed_both (faults o p) (cards_table p.t p.n cards ++ (data_table o p.t L cards «data» ++ of_place ∷ [])) e in
+      let plan = passed_both (faults o p) (cards_table p.t p.n cards ++ (data_table o p.t L cards «data» ++ of_place ∷ [])) (sym e) in
       let numbers = passed_both (cards_table p.t p.n cards) (data_table o p.t L cards «data» ++ of_place ∷ []) plan.1 in
       let measure = passed_both (data_table o p.t L cards «data») (of_place ∷ []) numbers.1 in
       record {
@@ -155,3 +157,22 @@ module _ (o : Operations) (p : Plan) (cards «data» : List ℕ) (L place worksp
       (measured_faultless o p.t L cards «data» h.measure)
       (passed_over 0x36 0 of_place.1 [] (ap not (eq-eqb place L h.placed))))))
       (passed_over 0x37 0 (ltb workspace room) [] (le-ltb workspace room enough))
+
+  -- such inputs are cards that an opening can begin with
+  pub faultless_fits : Faultless → (b : ℕ) → b ≡ lanes p.t L
+      → Fits o (record { plan = p; numbers = cards; «data» = «data»; lanes = b })
+  faultless_fits h b same =
+      let least : 2 ≤ p.t = h.sound.least in
+      let eight : p.t ≤ 8 = omega (arith, h.sound.ordered, h.sound.most) in
+      let some = lanes_some p.t L (omega arith) h.measure.some in
+      let few = lanes_few p.t L least eight h.measure.most in
+      record {
+        sound = h.sound;
+        count = h.numbers.count;
+        below = h.numbers.below;
+        different = h.numbers.different;
+        some = omega arith;
+        few = omega arith;
+        long = h.measure.long ∙ ap (λ b. p.t * (p.t * b)) (sym same);
+        codes = h.measure.codes;
+      }

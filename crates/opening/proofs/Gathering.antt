@@ -1,14 +1,24 @@
 -- The group of t different cards: their numbers in ascending order. Assumes nothing.
-use Rattle.std.proofs.Common.{◌≡◌, ℕ, zero, suc, ◌+◌, ◌-◌, ◌^◌, ◌<◌, ◌≤◌, Bool, true, false, cond, eqb, ◌≢◌, List, [], ◌∷◌, length, get_or, Some, None, Option, sym, refl, ap, ◌∙◌, subst, ⊎_elim, arith}
+use Rattle.std.proofs.Common.{◌≡◌, ℕ, zero, suc, ◌+◌, ◌^◌, ◌<◌, ◌≤◌, Bool, true, false, cond, eqb, ◌≢◌, List, [], ◌∷◌, length, get_or, Some, None, Option, sym, refl, ap, ◌∙◌, subst, ap₂, ⊎_elim, arith}
 use Rattle.std.proofs.lemmas.Bool.{true≢false, cases_eq, cases_Bool, eqb-true, eq-eqb, ne_eqb}
+use Rattle.std.specs.List.{sum_by}
+use Rattle.std.proofs.lemmas.List.Sums.{sum_by-cons}
 use Rattle.field.specs.Codes.{first}
 use Rattle.field.specs.Inverse.{first_passes}
 use Rattle.sharing.specs.Groups.{Group, Holds, bits}
 use Rattle.plan_check.proofs.Ranks.{Run, run_wider, run_group}
 use Rattle.opening.specs.Answers.{Different}
-use Rattle.opening.specs.Quorums.{among, group}
 use Rattle.opening.specs.Tables.{stands}
 use Rattle.opening.proofs.Faultless.{stands_false}
+
+-- the numbers that pass a test, ascending: those from c on, of m numbers
+abbrev pub among : (ℕ → Bool) → (c m : ℕ) → List ℕ
+among test c zero = []
+among test c (suc m) = cond (test c) (c ∷ among test (suc c) m) (among test (suc c) m)
+
+-- the numbers below n that are among the cards, ascending
+abbrev pub group : (n : ℕ) → List ℕ → List ℕ
+group n cards = among (stands cards (length cards)) 0 n
 
 module _ (test : ℕ → Bool) where
   -- a number that passes, and one that does not
@@ -17,22 +27,6 @@ module _ (test : ℕ → Bool) where
 
   pub among_without : (c m : ℕ) → test c ≡ false → among test c (suc m) ≡ among test (suc c) m
   among_without c m e = ap (λ b. cond b (c ∷ among test (suc c) m) (among test (suc c) m)) e
-
-  pub bits_with : (c n : ℕ) → c < n → test c ≡ true → bits (among test c (n - c)) ≡ 2 ^ c + bits (among test (c + 1) (n - (c + 1)))
-  bits_with c n h e =
-      let left : n - c ≡ suc (n - (c + 1)) = omega arith in
-      let next : suc c ≡ c + 1 = omega arith in
-      ap (λ m. bits (among test c m)) left
-      ∙ ap bits (among_with c (n - (c + 1)) e)
-      ∙ ap (λ k. 2 ^ c + bits (among test k (n - (c + 1)))) next
-
-  pub bits_without : (c n : ℕ) → c < n → test c ≡ false → bits (among test c (n - c)) ≡ bits (among test (c + 1) (n - (c + 1)))
-  bits_without c n h e =
-      let left : n - c ≡ suc (n - (c + 1)) = omega arith in
-      let next : suc c ≡ c + 1 = omega arith in
-      ap (λ m. bits (among test c m)) left
-      ∙ ap bits (among_without c (n - (c + 1)) e)
-      ∙ ap (λ k. bits (among test k (n - (c + 1)))) next
 
   pub among_run : (c m n : ℕ) → c + m ≡ n → Run c n (among test c m)
   among_run c zero n e = tt
@@ -118,55 +112,74 @@ holds_has (k ∷ cards) j h =
     (λ apart. has_next k cards j apart ∙ holds_cases j k cards (λ e. absurd (apart e)) (holds_has cards j) h)
     (cases_eq k j)
 
--- one number more, of those in the range, makes the list of the picked ones longer by one
-among_more : (k : ℕ) (cards : List ℕ) → has cards k ≡ false → (c m : ℕ) → c ≤ k → k < c + m
-    → length (among (has (k ∷ cards)) c m) ≡ suc (length (among (has cards) c m))
-among_more k cards new c zero l h = absurd (omega arith)
-among_more k cards new c (suc m) l h = ⊎_elim here (later (among_more k cards new (suc c) m)) (cases_eq k c)
-  where
-    here : k ≡ c → length (among (has (k ∷ cards)) c (suc m)) ≡ suc (length (among (has cards) c (suc m)))
-    here same =
-        ap length (among_with (has (k ∷ cards)) c m (has_first k cards c same))
-        ∙ ap (λ g. suc (length g))
-        (among_cong (has (k ∷ cards)) (has cards) (suc c) m (λ j a b. has_next k cards j (λ e. omega arith))
-        ∙ sym (among_without (has cards) c m (ap (has cards) (sym same) ∙ new)))
+module _ (weight : ℕ → ℕ) where
+  -- one number more, of those in the range, adds its weight to the picked ones
+  among_more : (k : ℕ) (cards : List ℕ) → has cards k ≡ false → (c m : ℕ) → c ≤ k → k < c + m
+      → sum_by weight (among (has (k ∷ cards)) c m) ≡ weight k + sum_by weight (among (has cards) c m)
+  among_more k cards new c zero l h = absurd (omega arith)
+  among_more k cards new c (suc m) l h = ⊎_elim here (later (among_more k cards new (suc c) m)) (cases_eq k c)
+    where
+      with-next : (j : ℕ) (g : List ℕ) → sum_by weight (j ∷ g) ≡ weight j + sum_by weight g
+      with-next j g = sum_by-cons weight j g
 
-    later : (suc c ≤ k → k < suc c + m → length (among (has (k ∷ cards)) (suc c) m) ≡ suc (length (among (has cards) (suc c) m)))
-        → (k ≡ c → ⊥) → length (among (has (k ∷ cards)) c (suc m)) ≡ suc (length (among (has cards) c (suc m)))
-    later ih apart =
-        let rest = ih (omega arith) (omega arith) in
-        ⊎_elim
-        (λ t.
-        ap length (among_with (has (k ∷ cards)) c m (has_next k cards c apart ∙ t))
-        ∙ ap suc rest
-        ∙ ap (λ g. suc (length g)) (sym (among_with (has cards) c m t)))
-        (λ f.
-        ap length (among_without (has (k ∷ cards)) c m (has_next k cards c apart ∙ f))
-        ∙ rest
-        ∙ ap (λ g. suc (length g)) (sym (among_without (has cards) c m f)))
-        (cases_Bool (has cards c))
+      here : k ≡ c → sum_by weight (among (has (k ∷ cards)) c (suc m)) ≡ weight k + sum_by weight (among (has cards) c (suc m))
+      here same =
+          ap (sum_by weight) (among_with (has (k ∷ cards)) c m (has_first k cards c same))
+          ∙ with-next c (among (has (k ∷ cards)) (suc c) m)
+          ∙ ap₂ (λ (i j : ℕ). weight i + j) (sym same)
+          (ap (sum_by weight)
+          (among_cong (has (k ∷ cards)) (has cards) (suc c) m (λ j a b. has_next k cards j (λ e. omega arith))
+          ∙ sym (among_without (has cards) c m (ap (has cards) (sym same) ∙ new))))
 
-among-nothing : (c m : ℕ) → length (among (has []) c m) ≡ 0
-among-nothing c zero = refl
-among-nothing c (suc m) = ap length (among_without (has []) c m (has_none c)) ∙ among-nothing (suc c) m
+      later : (suc c ≤ k → k < suc c + m
+          → sum_by weight (among (has (k ∷ cards)) (suc c) m) ≡ weight k + sum_by weight (among (has cards) (suc c) m))
+          → (k ≡ c → ⊥)
+          → sum_by weight (among (has (k ∷ cards)) c (suc m)) ≡ weight k + sum_by weight (among (has cards) c (suc m))
+      later ih apart =
+          let rest = ih (omega arith) (omega arith) in
+          ⊎_elim
+          (λ t.
+          let more = has_next k cards c apart ∙ t in
+          let one = ap (sum_by weight) (among_with (has (k ∷ cards)) c m more) ∙ with-next c (among (has (k ∷ cards)) (suc c) m) in
+          let other = ap (sum_by weight) (among_with (has cards) c m t) ∙ with-next c (among (has cards) (suc c) m) in
+          omega (arith, one, other, rest))
+          (λ f.
+          ap (sum_by weight) (among_without (has (k ∷ cards)) c m (has_next k cards c apart ∙ f))
+          ∙ rest
+          ∙ ap (λ g. weight k + sum_by weight g) (sym (among_without (has cards) c m f)))
+          (cases_Bool (has cards c))
 
--- as many different numbers below n are picked as there are
-among-count : (n : ℕ) (cards : List ℕ) → ((i : ℕ) → i < length cards → get_or cards i 0 < n) → Different cards
-    → length (among (has cards) 0 n) ≡ length cards
-among-count n [] below different = among-nothing 0 n
-among-count n (k ∷ cards) below different =
-    among_more k cards new 0 n (omega arith) (omega (arith, below 0 (omega arith)))
-    ∙ ap suc
-    (among-count n cards (λ i l. below (suc i) (omega arith)) (λ i h l m. different (suc i) (suc h) (omega arith) (omega arith)))
-  where
-    new : has cards k ≡ false
-    new =
-        ⊎_elim
-        (λ t.
-        let held = has_holds cards k t in
-        absurd (different 0 (suc held.0) (omega arith) (omega (arith, held.1)) (sym held.2)))
-        (λ f. f)
-        (cases_Bool (has cards k))
+  among-nothing : (c m : ℕ) → sum_by weight (among (has []) c m) ≡ 0
+  among-nothing c zero = refl
+  among-nothing c (suc m) = ap (sum_by weight) (among_without (has []) c m (has_none c)) ∙ among-nothing (suc c) m
+
+  -- different numbers below n weigh as much as the picked ones
+  among-weight : (n : ℕ) (cards : List ℕ) → ((i : ℕ) → i < length cards → get_or cards i 0 < n) → Different cards
+      → sum_by weight (among (has cards) 0 n) ≡ sum_by weight cards
+  among-weight n [] below different = among-nothing 0 n
+  among-weight n (k ∷ cards) below different =
+      among_more k cards new 0 n (omega arith) (omega (arith, below 0 (omega arith)))
+      ∙ ap (λ s. weight k + s)
+      (among-weight n cards (λ i l. below (suc i) (omega arith))
+      (λ i h l m. different (suc i) (suc h) (omega arith) (omega arith)))
+      ∙ sym (sum_by-cons weight k cards)
+    where
+      new : has cards k ≡ false
+      new =
+          ⊎_elim
+          (λ t.
+          let held = has_holds cards k t in
+          absurd (different 0 (suc held.0) (omega arith) (omega (arith, held.1)) (sym held.2)))
+          (λ f. f)
+          (cases_Bool (has cards k))
+
+length_weight : (g : List ℕ) → length g ≡ sum_by (λ _. 1) g
+length_weight [] = refl
+length_weight (j ∷ g) = omega (arith, length_weight g, sum_by-cons (λ (_ : ℕ). 1) j g)
+
+bits_weight : (g : List ℕ) → bits g ≡ sum_by (λ j. 2 ^ j) g
+bits_weight [] = refl
+bits_weight (j ∷ g) = ap (λ s. 2 ^ j + s) (bits_weight g) ∙ sym (sum_by-cons (λ j. 2 ^ j) j g)
 
 -- a number stands among the cards exactly if they hold it
 pub stands_holds : (cards : List ℕ) (j : ℕ) → stands cards (length cards) j ≡ true → Holds cards j
@@ -195,13 +208,26 @@ stands_has cards j =
     (cases_Bool (stands cards (length cards) j))
 
 module _ (n : ℕ) (cards : List ℕ) (below : (i : ℕ) → i < length cards → get_or cards i 0 < n) (different : Different cards) where
+  picked : group n cards ≡ among (has cards) 0 n
+  picked = among_cong (stands cards (length cards)) (has cards) 0 n (λ k l h. stands_has cards k)
+
   -- the group of different cards below n is a group of as many cards, with the same members
   pub group_is : Group n (length cards) (group n cards)
   group_is =
       run_group n (length cards) (group n cards)
-      (ap length (among_cong (stands cards (length cards)) (has cards) 0 n (λ k l h. stands_has cards k))
-      ∙ among-count n cards below different)
+      (ap length picked
+      ∙ length_weight (among (has cards) 0 n)
+      ∙ among-weight (λ _. 1) n cards below different
+      ∙ sym (length_weight cards))
       (among_run (stands cards (length cards)) 0 n n (omega arith))
+
+  -- and has the same bits
+  pub bits_group : bits cards ≡ bits (group n cards)
+  bits_group =
+      bits_weight cards
+      ∙ sym (among-weight (λ j. 2 ^ j) n cards below different)
+      ∙ sym (bits_weight (among (has cards) 0 n))
+      ∙ sym (ap bits picked)
 
   pub group_holds : (j : ℕ) → Holds (group n cards) j → Holds cards j
   group_holds j h = stands_holds cards j (among_passes (stands cards (length cards)) 0 n j h)

@@ -5,6 +5,7 @@ pub mod Gathering
 pub mod GivingBack
 pub mod Limits
 pub mod Loose
+pub mod Searches
 pub mod Settling
 pub mod OneAnswer
 pub mod Summing

@@ -1,8 +1,8 @@
 -- Numbers of the padding that are zero, and the first that is not. Assumes nothing.
-use Rattle.std.proofs.Common.{◌≡◌, ℕ, ◌<◌, ◌≤◌, Bool, false, not, ◌&&◌, eqb, ltb, ◌≢◌, List, length, get_or, replicate, Some, None, ap, ⊎_elim, arith}
+use Rattle.std.proofs.Common.{◌≡◌, ℕ, ◌<◌, ◌≤◌, Bool, false, not, ◌&&◌, eqb, ltb, List, length, get_or, replicate, None, ap, ⊎_elim, arith}
 use Rattle.std.proofs.lemmas.List.{get_or-replicate, get_or_past, length-replicate}
-use Rattle.std.proofs.lemmas.Bool.{cases_lt, lt-ltb, le-ltb, eq-eqb, ne_eqb, and_left, and_right, and_from}
-use Rattle.plan_check.proofs.First.{first_nothing, first_found}
+use Rattle.std.proofs.lemmas.Bool.{cases_lt, lt-ltb, eq-eqb, and_left, and_right}
+use Rattle.plan_check.proofs.First.{first_nothing}
 use Rattle.opening.specs.Words.{first_loose}
 
 -- a list of zeros reads as 0 everywhere
@@ -26,10 +26,3 @@ module _ (L : ℕ) (key : List ℕ) where
 
   pub loose_none : ((j : ℕ) → L ≤ j → j < length key → get_or key j 0 ≡ 0) → first_loose L key ≡ None
   loose_none zeros = first_nothing loose (length key) (λ i h. tight_at (length key) i zeros h)
-
-  pub loose_found : (k : ℕ) → L ≤ k → k < length key → get_or key k 0 ≢ 0 → ((j : ℕ) → L ≤ j → j < k → get_or key j 0 ≡ 0)
-      → first_loose L key ≡ Some k
-  loose_found k l h apart zeros =
-      first_found loose (length key) k h
-      (and_from (not (ltb k L)) (not (eqb (get_or key k 0) 0)) (ap not (le-ltb k L l)) (ap not (ne_eqb (get_or key k 0) 0 apart)))
-      (λ i m. tight_at k i zeros m)

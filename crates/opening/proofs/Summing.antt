@@ -6,9 +6,8 @@ use Rattle.linear.specs.Pivots.{entry}
 use Rattle.linear.specs.Systems.{Solves, Regular}
 use Rattle.linear.proofs.Coded.{sum_none, sum_more, sum_cong}
 use Rattle.sharing.specs.Systems.{opening_matrix}
-use Rattle.opening.specs.Quorums.{plan_of, Solved, Summed, signed}
+use Rattle.opening.specs.Quorums.{Gathered, Solved, Summed, signed}
 use Rattle.opening.specs.Words.{card_number}
-use Rattle.opening.specs.declared.quorum.Quorum.{Quorum}
 
 -- vectors that agree solve the same system
 pub solves_same : (o : Operations) (n : ℕ) (a : ℕ → ℕ → ℕ) (b x y : ℕ → ℕ) → ((c : ℕ) → c < n → x c ≡ y c) → Solves o n a b x
@@ -19,7 +18,7 @@ solves_same o n a b x y same s =
       rows = λ r l. sum_cong o n _ _ (λ c h. ap (o.mul (a r c)) (sym (same c h))) ∙ s.rows r l;
     }
 
-module _ (o : Operations) (q : Quorum) where
+module _ (o : Operations) (q : Gathered) where
   pub summed_none : (sums : List ℕ) → ((y : ℕ) → get_or sums y 0 ≡ 0) → Summed o q 0 sums
   summed_none sums zeros =
       record {
@@ -31,10 +30,10 @@ module _ (o : Operations) (q : Quorum) where
 
   -- the words so far, and those of row i
   next_words : (i : ℕ) (matrix : List ℕ) → ((i e c : ℕ) → ℕ) → (k e c : ℕ) → ℕ
-  next_words i matrix x k e c = cond (eqb k i) (entry (q.t + q.lanes) matrix c (q.t + e)) (x k e c)
+  next_words i matrix x k e c = cond (eqb k i) (entry (q.plan.t + q.lanes) matrix c (q.plan.t + e)) (x k e c)
 
   next_same : (i : ℕ) (matrix : List ℕ) (x : (i e c : ℕ) → ℕ) (k e c : ℕ) → k ≡ i
-      → next_words i matrix x k e c ≡ entry (q.t + q.lanes) matrix c (q.t + e)
+      → next_words i matrix x k e c ≡ entry (q.plan.t + q.lanes) matrix c (q.plan.t + e)
   unfolding next_words
   next_same i matrix x k e c is = cond-true (eqb k i) _ _ (eq-eqb k i is)
 
@@ -44,9 +43,9 @@ module _ (o : Operations) (q : Quorum) where
 
   -- one row more
   pub summed_more : (i : ℕ) (matrix sums after : List ℕ) → Summed o q i sums → Solved o q i matrix
-      → ((y : ℕ) → y < q.t * q.lanes
+      → ((y : ℕ) → y < q.plan.t * q.lanes
       → get_or after y 0
-      ≡ o.add (get_or sums y 0) (signed o i (entry (q.t + q.lanes) matrix (y / q.lanes) (q.t + y % q.lanes))))
+      ≡ o.add (get_or sums y 0) (signed o i (entry (q.plan.t + q.lanes) matrix (y / q.lanes) (q.plan.t + y % q.lanes))))
       → Summed o q (i + 1) after
   summed_more i matrix sums after before row add =
       record { words = x; regular = regular; solved = solved; added = added }
@@ -55,30 +54,30 @@ module _ (o : Operations) (q : Quorum) where
       x = next_words i matrix before.words
 
       A : ℕ → ℕ → ℕ → ℕ
-      A = opening_matrix (plan_of q) q.numbers.now
+      A = opening_matrix q.plan q.numbers
 
       right : (k e m : ℕ) → ℕ
-      right k e m = card_number q.t q.lanes q.«data».now m k e
+      right k e m = card_number q.plan.t q.lanes q.«data» m k e
 
-      regular : (k : ℕ) → k < i + 1 → Regular o q.t (A k)
+      regular : (k : ℕ) → k < i + 1 → Regular o q.plan.t (A k)
       regular k l =
-          ⊎_elim (λ same. subst (λ k. Regular o q.t (A k)) (sym same) row.regular)
+          ⊎_elim (λ same. subst (λ k. Regular o q.plan.t (A k)) (sym same) row.regular)
           (λ apart. before.regular k (omega arith)) (cases_eq k i)
 
-      solved : (k e : ℕ) → k < i + 1 → e < q.lanes → Solves o q.t (A k) (right k e) (x k e)
+      solved : (k e : ℕ) → k < i + 1 → e < q.lanes → Solves o q.plan.t (A k) (right k e) (x k e)
       solved k e l he =
           ⊎_elim
           (λ same.
-          solves_same o q.t (A k) (right k e) (λ c. entry (q.t + q.lanes) matrix c (q.t + e)) (x k e)
+          solves_same o q.plan.t (A k) (right k e) (λ c. entry (q.plan.t + q.lanes) matrix c (q.plan.t + e)) (x k e)
           (λ c h. sym (next_same i matrix before.words k e c same))
-          (subst (λ k. Solves o q.t (A k) (right k e) (λ c. entry (q.t + q.lanes) matrix c (q.t + e))) (sym same)
+          (subst (λ k. Solves o q.plan.t (A k) (right k e) (λ c. entry (q.plan.t + q.lanes) matrix c (q.plan.t + e))) (sym same)
           (row.words e he)))
           (λ apart.
-          solves_same o q.t (A k) (right k e) (before.words k e) (x k e)
+          solves_same o q.plan.t (A k) (right k e) (before.words k e) (x k e)
           (λ c h. sym (next_other i matrix before.words k e c apart)) (before.solved k e (omega arith) he))
           (cases_eq k i)
 
-      added : (y : ℕ) → y < q.t * q.lanes → get_or after y 0 ≡ sum o (i + 1) (λ k. signed o k (x k (y % q.lanes) (y / q.lanes)))
+      added : (y : ℕ) → y < q.plan.t * q.lanes → get_or after y 0 ≡ sum o (i + 1) (λ k. signed o k (x k (y % q.lanes) (y / q.lanes)))
       added y l =
           add y l
           ∙ ap₂ o.add

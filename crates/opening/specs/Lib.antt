@@ -1,4 +1,5 @@
 pub mod Answers
+pub mod Lent
 pub mod Quorums
 pub mod Tables
 pub mod Words

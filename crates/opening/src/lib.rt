@@ -8,51 +8,49 @@ mod table;
 mod words;
 
 ghost use Rattle.std.specs.Prelude.{◌≡◌, length};
+ghost use Rattle.sharing.specs.Lent.{lent_plan};
 ghost use Rattle.plan_check.specs.Checks.{cleared};
 ghost use Rattle.opening.specs.Answers.{Answered, OnlyAnswer, GivesBack};
 
 use field::Field;
 use field::refusal::Refusal;
-use key::settle;
 use plan_check::guard::Guard;
 use plan_check::plan::Checked;
 use quorum::Quorum;
-use table::{inputs_fault, lanes};
+use sharing::plan::{LentPlan, lanes};
+use std::marker::PhantomData;
+use table::fit_inputs;
 
 // How many bytes a workspace has to have.
 const ROOM: usize = 4096;
 
-// Opens t cards of the plan with these t, n and rows.
-fn open_cards<'a, F: Field>(
-    t: u8,
-    n: u8,
-    rows: &'a [u8],
-    cards: &'a [u8],
-    data: &'a [u8],
+// Opens t cards of the plan.
+// Stays: cards, data and length are the public call's own parameters; a type for them would be packed here and unpacked below.
+fn open_cards<F: Field>(
+    plan: &LentPlan<'_>,
+    cards: &[u8],
+    data: &[u8],
     key_length: u8,
     key: &mut [u8],
     workspace: &mut [u8],
 ) -> Result<(), Refusal>
-    ensures answer { Answered F.Field.ops (record { t = t; n = n; rows = rows.now }) cards.now «data».now key_length key.old key.new (length workspace.old) result }
+    ensures answer { Answered F.Field.ops (lent_plan plan.now) cards.now «data».now key_length key.old key.new (length workspace.old) result }
     ensures zeros { workspace.new ≡ cleared workspace.old }
 {
-    let fault = inputs_fault::<F>(t, n, rows, cards, data, key_length, key.len());
+    let fit = fit_inputs::<F>(plan, cards, data, key_length, key.len());
     if workspace.len() < ROOM {
-        return Err(fault.unwrap_or(Refusal::OpeningRoom));
+        return fit.and(Err(Refusal::OpeningRoom));
     }
     let guard = Guard { bytes: workspace };
-    if let Some(refusal) = fault {
-        return Err(refusal);
-    }
-    let quorum = Quorum {
-        t: t as usize,
-        n,
-        rows,
+    fit?;
+    let quorum = Quorum::<F> {
+        plan: *plan,
         numbers: cards,
         data,
-        lanes: lanes(t, key_length),
+        lanes: lanes(plan.t, key_length),
+        field: PhantomData,
     };
-    settle::<F>(&quorum, key, guard.bytes)
+    quorum.settle(key, guard.bytes)
 }
 
 // Opens t cards of an admitted or vetted plan, given by their numbers, in any order, and their data, one after the other in
@@ -71,10 +69,7 @@ pub fn open<'a, F: Field, P: Checked>(
     ensures only { OnlyAnswer F.Field.ops (P.Checked.plan plan.now) cards.now «data».now key_length key.old key.new (length workspace.old) result }
     ensures deals { GivesBack F.Field.ops (P.Checked.plan plan.now) cards.now «data».now key_length key.old key.new (length workspace.old) result }
 {
-    let t = plan.threshold();
-    let n = plan.cards();
-    let rows = plan.rows();
-    open_cards::<F>(t, n, rows, cards, data, key_length, key, workspace)
+    open_cards::<F>(&plan.lent(), cards, data, key_length, key, workspace)
 }
 
 #[cfg(test)]

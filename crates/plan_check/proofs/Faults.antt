@@ -1,14 +1,13 @@
 -- A plan has no fault exactly if it is sound in the field. Assumes nothing.
-use Rattle.std.proofs.Common.{◌≡◌, ℕ, ◌-◌, ◌*◌, Bool, true, false, cond, not, ◌&&◌, eqb, ltb, leb, List, [], ◌∷◌, ◌++◌, length, get_or, is_some, Some, None, Option, unwrap_or, sym, refl, ap, ◌∙◌, arith}
+use Rattle.std.proofs.Common.{◌≡◌, ℕ, ◌-◌, ◌*◌, Bool, true, false, cond, not, ◌&&◌, eqb, ltb, leb, List, [], ◌∷◌, ◌++◌, length, get_or, is_some, Some, None, Option, unwrap_or, refl, ap, ◌∙◌, arith}
 use Rattle.std.proofs.lemmas.Bool.{ltb-true, eqb-true, lt-ltb, le-leb, eq-eqb, and_from, not-false}
 use Rattle.field.specs.Codes.{Operations}
-use Rattle.field.specs.declared.refusal.Refusal.{Refusal}
 use Rattle.field.specs.Refusals.{Rule, foremost}
 use Rattle.field.specs.Rows.{within}
 use Rattle.field.specs.Inverse.{first_none}
 use Rattle.field.proofs.Limits.{within-parts, passed_over}
 use Rattle.sharing.specs.Scheme.{Codes, Plan, Sound}
-use Rattle.plan_check.specs.Faults.{faults, listed, no_code, first_no_code}
+use Rattle.plan_check.specs.Faults.{faults, no_code, first_no_code}
 use Rattle.plan_check.proofs.First.{first_nothing}
 
 pub some_none : {A : Type 0} (a : A) → Some a ≡ None → ⊥
@@ -86,8 +85,3 @@ module _ (o : Operations) (p : Plan) where
             (not-false (eqb (length p.rows) ((p.n - p.t) * p.t)) past-length.0);
         codes = all_codes o p.rows none;
       }
-
-  -- a plan in which no fault is found is sound
-  pub no_fault_sound : (fault : Option Refusal) → listed fault ≡ foremost (faults o p) → is_some fault ≡ false → Sound o p
-  no_fault_sound None e h = faultless_sound (sym e)
-  no_fault_sound (Some r) e h = let z : ◌≡◌ {A = ℕ} 0 1 = cc in absurd (omega arith)

@@ -1,8 +1,8 @@
 -- The steps of a search over falling ranks, and of reading a rank card by card. Assumes nothing.
-use Rattle.std.proofs.Common.{◌≡◌, ℕ, suc, ◌+◌, ◌-◌, ◌*◌, ◌%◌, ◌^◌, ◌<◌, ◌≤◌, List, [], ◌∷◌, ◌++◌, length, take, set, sym, ap, ◌∙◌, subst, ap₂, ⊎_elim, arith}
+use Rattle.std.proofs.Common.{◌≡◌, ℕ, suc, ◌+◌, ◌-◌, ◌*◌, ◌%◌, ◌^◌, ◌<◌, ◌≤◌, List, ◌∷◌, ◌++◌, length, sym, ap, ◌∙◌, subst, ap₂, ⊎_elim, arith}
 use native.Mathlib.Nat.{two-pow-succ}
 use Rattle.std.proofs.lemmas.Nat.{one_shl}
-use Rattle.std.proofs.lemmas.List.{append-nil, append_assoc, length-append, length-take-le, take_more_set}
+use Rattle.std.proofs.lemmas.List.{append-nil, length-append}
 use Rattle.std.proofs.lemmas.Bool.{cases_eq}
 use Rattle.sharing.specs.Groups.{Group, FirstBad}
 use Rattle.plan_check.proofs.Ranks.{members, rank, members_with, members_without, members_run, rank-members, ranked, rank-before, Run, run_group, group_run}
@@ -55,34 +55,19 @@ module _ (n c left w : ℕ) (all front : List ℕ) (some : c < n) (weighs : w �
       let whole : left < 2 ^ suc (n - 1 - c) = subst (λ m. left < 2 ^ m) long bound in
       subst (λ m. left - w < 2 ^ m) short (omega arith)
 
--- a card put behind those that are held
-pub card-put : (group rest : List ℕ) (held c : ℕ) → held < length group
-    → take held group ++ (c ∷ rest) ≡ take (held + 1) (set group held c) ++ rest
-card-put group rest held c h =
-    sym (append_assoc (take held group) (c ∷ []) rest) ∙ ap (λ l. l ++ rest) (sym (take_more_set group held c h))
-
 -- with one more card there are more than those that are held
-pub card-over : (group rest all : List ℕ) (held c : ℕ) → held ≤ length group → all ≡ take held group ++ (c ∷ rest) → held < length all
-card-over group rest all held c h e =
-    let whole = ap length e ∙ length-append (take held group) (c ∷ rest) in
-    let front = length-take-le held group h in
-    omega arith
+pub card-over : (group rest all : List ℕ) (c : ℕ) → all ≡ group ++ (c ∷ rest) → length group < length all
+card-over group rest all c e =
+    let whole = ap length e ∙ length-append group (c ∷ rest) in omega arith
 
 -- once every card is read, those that are held are the members of the rank, in order
-pub cards_held : (n c left held r : ℕ) (group : List ℕ) → held ≤ length group → n ≤ c
-    → members 0 n r ≡ take held group ++ members c (n - c) left
-    → (members 0 n r ≡ take (held - 0) group) × (length (take (held - 0) group) ≡ held) × Run 0 n (take (held - 0) group)
+pub cards_held : (n c left r : ℕ) (group cards : List ℕ) → n ≤ c → members 0 n r ≡ group ++ members c (n - c) left → cards ≡ group
+    → (members 0 n r ≡ cards) × Run 0 n cards
 unfolding members
-cards_held n c left held r group fit done inv =
+cards_held n c left r group cards done inv same =
     let none : n - c ≡ 0 = omega arith in
-    let whole : held ≡ held - 0 = omega arith in
-    let read =
-    inv
-    ∙ ap (λ m. take held group ++ members c m left) none
-    ∙ append-nil (take held group)
-    ∙ ap (λ k. take k group) whole
-    in
-    (read, length-take-le (held - 0) group (omega arith) ∙ sym whole, subst (Run 0 n) read (members_run 0 n n r (omega arith)))
+    let read = inv ∙ ap (λ m. group ++ members c m left) none ∙ append-nil group ∙ sym same in
+    (read, subst (Run 0 n) read (members_run 0 n n r (omega arith)))
 
 -- every group of k cards of rank r or more is good
 abbrev pub Down : (List ℕ → Type 0) → (n k r : ℕ) → Type 0

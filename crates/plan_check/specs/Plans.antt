@@ -5,14 +5,15 @@
 --   kept       the plan that an answer hands back: the one granted, or the one refused
 use Rattle.std.specs.Prelude.{ℕ, Some, None, Ok, Err, Option, Result}
 use Rattle.field.specs.Refusals.{listing}
-use Rattle.sharing.specs.Scheme.{Plan, plan_of}
+use Rattle.sharing.specs.Lent.{lent_plan}
+use Rattle.sharing.specs.Scheme.{Plan}
 use Rattle.plan_check.specs.declared.plan.Drafted.{Drafted}
 use Rattle.plan_check.specs.declared.plan.Admitted.{Admitted}
 use Rattle.plan_check.specs.declared.plan.Vetted.{Vetted}
 use Rattle.plan_check.specs.declared.plan.Refused.{Refused}
 
 abbrev pub drafted_plan : Drafted → Plan
-drafted_plan v = plan_of v.t v.n v.rows.now
+drafted_plan v = lent_plan v.plan
 
 abbrev pub admitted_plan : Admitted → Plan
 admitted_plan v = drafted_plan v.draft

@@ -1,23 +1,23 @@
 // The three states of a plan. Each is moved from call to call, and borrows the plan's rows, so that nobody writes them
 // while the plan stands.
 ghost use Rattle.std.specs.Prelude.{◌≡◌, length};
+ghost use Rattle.field.specs.Refusals.{refused};
+ghost use Rattle.sharing.specs.Lent.{lent_plan};
 ghost use Rattle.sharing.specs.Scheme.{Plan, plan_of};
 ghost use Rattle.plan_check.specs.declared.property.Property.TheVariants.{Opening, Hiding};
 ghost use Rattle.plan_check.specs.Checks.{Allowed, Grants, OnlyAnswer, cleared};
-ghost use Rattle.plan_check.specs.Faults.{listed};
 ghost use Rattle.plan_check.specs.Plans.{drafted_plan, admitted_plan, vetted_plan, answered, kept};
 
 use crate::examine::examine;
 use crate::property::Property;
 use field::Field;
 use field::refusal::Refusal;
+use sharing::plan::LentPlan;
 
 // A plan as it was put down: nothing is known of it.
 #[derive(Drop)]
 pub struct Drafted<'a> {
-    t: u8,
-    n: u8,
-    rows: &'a [u8],
+    plan: LentPlan<'a>,
 }
 
 // A plan that every group of t cards opens, in the field that it was admitted in.
@@ -44,15 +44,16 @@ impl<'a> Drafted<'a> {
     pub fn new(t: u8, n: u8, rows: &'a [u8]) -> Self
         ensures { drafted_plan result ≡ plan_of t n rows.now }
     {
-        Drafted { t, n, rows }
+        let plan = LentPlan { t, n, rows };
+        Drafted { plan }
     }
 
-    // The refusal that the property's check has for the plan, if there is one.
-    fn examined<F: Field>(&self, property: Property, workspace: &mut [u8]) -> Option<Refusal>
-        ensures answer { Allowed property F.Field.ops (drafted_plan self.now) (length workspace.old) (listed result) }
+    // Grants the plan if it has the property, else names what stands against it.
+    fn examined<F: Field>(&self, property: Property, workspace: &mut [u8]) -> Result<(), Refusal>
+        ensures answer { Allowed property F.Field.ops (drafted_plan self.now) (length workspace.old) (refused result) }
         ensures workspace { workspace.new ≡ cleared workspace.old }
     {
-        examine::<F>(property, self.t, self.n, self.rows, workspace)
+        examine::<F>(property, &self.plan, workspace)
     }
 
     // Admits the plan if every group of t cards opens the key in the field; else names what stands against it. A workspace
@@ -64,9 +65,10 @@ impl<'a> Drafted<'a> {
         ensures plan { kept admitted_plan drafted_plan result ≡ drafted_plan self.entry }
         ensures workspace { workspace.new ≡ cleared workspace.old }
     {
+        // Stays: `map` and `map_err` would each move the plan into a closure, and it can be moved into one only
         match self.examined::<F>(Property::Opening, workspace) {
-            None => Ok(Admitted { draft: self }),
-            Some(refusal) => Err(Refused {
+            Ok(()) => Ok(Admitted { draft: self }),
+            Err(refusal) => Err(Refused {
                 plan: self,
                 refusal,
             }),
@@ -84,9 +86,10 @@ impl<'a> Admitted<'a> {
         ensures plan { kept vetted_plan admitted_plan result ≡ admitted_plan self.entry }
         ensures workspace { workspace.new ≡ cleared workspace.old }
     {
+        // Stays: `map` and `map_err` would each move the plan into a closure, and it can be moved into one only
         match self.draft.examined::<F>(Property::Hiding, workspace) {
-            None => Ok(Vetted { admitted: self }),
-            Some(refusal) => Err(Refused {
+            Ok(()) => Ok(Vetted { admitted: self }),
+            Err(refusal) => Err(Refused {
                 plan: self,
                 refusal,
             }),
@@ -109,21 +112,32 @@ pub trait Checked {
     // The rows t to n − 1, one after the other.
     fn rows(&self) -> &[u8]
         ensures { result.now ≡ (plan self.now).rows };
+
+    // The plan, to be lent on.
+    fn lent(&self) -> LentPlan<'_>
+        ensures { lent_plan result ≡ plan self.now }
+    {
+        LentPlan {
+            t: self.threshold(),
+            n: self.cards(),
+            rows: self.rows(),
+        }
+    }
 }
 
 impl<'a> Checked for Admitted<'a> {
     ghost plan = { admitted_plan };
 
     fn threshold(&self) -> u8 {
-        self.draft.t
+        self.draft.plan.t
     }
 
     fn cards(&self) -> u8 {
-        self.draft.n
+        self.draft.plan.n
     }
 
     fn rows(&self) -> &[u8] {
-        self.draft.rows
+        self.draft.plan.rows
     }
 }
 

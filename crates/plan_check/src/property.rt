@@ -5,7 +5,8 @@ ghost use Rattle.plan_check.specs.Checks.{group_size, failure};
 
 use field::refusal::Refusal;
 
-#[derive(Clone, Copy)]
+// Stays: the specifications list these two cases; closures or a trait would give each case three items, and no less to read
+#[derive(Clone, Copy, PartialEq, Eq, Debug)]
 pub enum Property {
     // t cards open the key
     Opening,

@@ -1,7 +1,8 @@
 -- What the parts of the dealing program answer makes what the whole answers. Assumes nothing.
 use Rattle.std.proofs.Common.{◌≡◌, ℕ, ◌+◌, ◌-◌, ◌*◌, ◌<◌, ◌≤◌, Bool, true, false, cond, eqb, ltb, List, [], ◌∷◌, ◌++◌, length, replicate, Some, None, Ok, Err, Result, sym, refl, ap, ◌∙◌, subst, arith, length-append}
+use Rattle.std.specs.Result.{IsErrAnd, is_ok}
 use Rattle.std.proofs.lemmas.List.{get_or_append_left, get_or-append-add, nil_from_length}
-use Rattle.std.proofs.lemmas.Bool.{eqb-true, eqb-false, ltb-false}
+use Rattle.std.proofs.lemmas.Bool.{eqb-true, eqb-false, false≢true, ltb-false}
 use Rattle.field.specs.Codes.{Operations}
 use Rattle.field.specs.Known.{operations}
 use Rattle.field.specs.Refusals.{foremost, listing}
@@ -22,7 +23,7 @@ use Rattle.lines.specs.declared.kind.Kind.TheVariants as kind
 use Rattle.lines.specs.declared.reader.Reader.{Reader}
 use Rattle.lines.specs.declared.wanted.Wanted.{Wanted}
 use Rattle.lines.specs.declared.wanted.Wanted.TheVariants as wanted
-use Rattle.programs.specs.Answers.{Answer, Says, Tells, at_line, no_line}
+use Rattle.programs.specs.Answers.{Answer, Refusing, Says, Stops, Tells, at_line, no_line}
 use Rattle.programs.specs.Answers.Answer.{Grants as Granted, Refuses}
 use Rattle.programs.specs.Dealing.{Dealt, Examined, Unbegun, cards_text}
 use Rattle.programs.specs.Dealing.Examined.{vetted}
@@ -33,34 +34,30 @@ use Rattle.programs.specs.Planning.Unplanned.{no_row}
 use Rattle.programs.specs.Texts.{Block, Broken, PlanHead, width}
 use Rattle.programs.specs.Vetting.{Fit, Passed, Unadmitted, Unvetted, room}
 use Rattle.programs.specs.Vetting.Unvetted.{not_vetted}
-use Rattle.programs.specs.declared.stop.Notice.{Notice}
 use Rattle.programs.specs.declared.stop.Stop.{Stop}
 use Rattle.programs.specs.declared.stop.Stop.TheVariants.{Refused, NoMemory}
-use Rattle.programs.proofs.Heads.{block_shorter, plan_shorter, stops_more}
+use Rattle.programs.proofs.Heads.{stops_more}
 use Rattle.programs.proofs.Turns.{begun_store}
 
--- the notice of a refusal, as an answer
-abbrev pub noticed : Refusal → Notice
-noticed r = record { number = (listing r).0; carries = (listing r).1; line = no_line }
-
-abbrev pub refusing : Notice → Answer
-refusing n = Refuses n.number n.carries n.line
+-- the refusal of a plan, a deal or an opening, that no line is to blame for
+abbrev pub no_line_at : Refusal → Answer
+no_line_at r = Refuses (listing r).0 (listing r).1 no_line
 
 -- the first check
 module _ (o : Operations) (p q : Plan) (same : q ≡ p) where
-  pub unadmitted_by : (rm : ℕ) (r : Refusal) (n : Notice) → rm ≡ room → Allowed Opening o q rm (Some (listing r)) → n ≡ noticed r → Unadmitted o p (refusing n)
-  unadmitted_by rm r n e h is =
-      (listing r, subst (λ x. Allowed Opening o p x (Some (listing r))) e (subst (λ x. Allowed Opening o x rm (Some (listing r))) same h), ap refusing is)
+  pub unadmitted_by : (rm : ℕ) (r : Refusal) → rm ≡ room → Allowed Opening o q rm (Some (listing r)) → Unadmitted o p (no_line_at r)
+  unadmitted_by rm r e h =
+      (listing r, subst (λ x. Allowed Opening o p x (Some (listing r))) e (subst (λ x. Allowed Opening o x rm (Some (listing r))) same h), refl)
 
   pub fit_by : (rm : ℕ) → Grants Opening o q rm None → Fit o p
   fit_by rm admitted = let all = admitted.0 refl in record { sound = subst (Sound o) same all.0; admits = subst (λ x. Admits o x) same all.2 }
 
 -- the second check, of a plan that is admitted
 module _ (o : Operations) (p q : Plan) (same : q ≡ p) (fit : Fit o p) where
-  pub unvetted_by : (rm : ℕ) (r : Refusal) (n : Notice) → rm ≡ room → Allowed Hiding o q rm (Some (listing r)) → n ≡ noticed r → Unvetted o p (refusing n)
-  unvetted_by rm r n e h is =
+  pub unvetted_by : (rm : ℕ) (r : Refusal) → rm ≡ room → Allowed Hiding o q rm (Some (listing r)) → Unvetted o p (no_line_at r)
+  unvetted_by rm r e h =
       not_vetted (listing r) fit.sound fit.admits
-      (subst (λ x. Allowed Hiding o p x (Some (listing r))) e (subst (λ x. Allowed Hiding o x rm (Some (listing r))) same h)) (ap refusing is)
+      (subst (λ x. Allowed Hiding o p x (Some (listing r))) e (subst (λ x. Allowed Hiding o x rm (Some (listing r))) same h)) refl
 
   pub passed_by : (rm : ℕ) → Grants Hiding o q rm None → Passed o p
   passed_by rm also = record { sound = fit.sound; admits = fit.admits; vets = subst (λ x. Vets o x) same (also.0 refl).2 }
@@ -109,6 +106,30 @@ pub tells_more : {T : Type 0} (r : Result T Stop) (P P' : T → Type 0) (Q Q' : 
 tells_more (Ok x) P P' Q Q' f h t = f x t
 tells_more (Err s) P P' Q Q' f h t = stops_more s Q Q' h t
 
+-- the exit of a `?` that passes a stop on
+pub passes_on : {T : Type 0} (r : Result T Stop) (s : Stop) (P : T → Type 0) (Q Q' : Answer → Type 0)
+    → IsErrAnd r (λ y. y ≡ s) → ((a : Answer) → Q a → Q' a) → Stops s Q → Tells r P Q'
+passes_on (Ok x) s P Q Q' e f h = absurd e
+passes_on (Err y) s P Q Q' e f h = subst (λ z. Stops z Q') (sym e) (stops_more s Q Q' f h)
+
+-- the exit of a `?` that makes a stop of a refusal
+pub turns_into : {T : Type 0} (r : Result T Stop) (a : Answer) (P : T → Type 0) (Q : Answer → Type 0)
+    → IsErrAnd r (λ s. Refusing s a) → Q a → Tells r P Q
+turns_into (Ok x) a P Q e h = absurd e
+turns_into (Err (Refused n)) a P Q e h = subst Q e h
+turns_into (Err NoMemory) a P Q e h = absurd e
+
+-- the exit of a `?` where memory is wanting
+pub no_memory : {T : Type 0} (r : Result T Stop) (P : T → Type 0) (Q : Answer → Type 0) → IsErrAnd r (λ s. s ≡ NoMemory) → Tells r P Q
+no_memory r P Q e = passes_on r NoMemory P Q Q e (λ a q. q) tt
+
+-- an error that a `map_err` turns into a stop
+pub mapped : {T E : Type 0} (r : Result T E) (q : Result T Stop) (at : E → Answer) (P : T → Type 0) (Q : Answer → Type 0)
+    → ((x : T) → r ≡ Ok x → q ≡ Ok x) → ((e : E) → r ≡ Err e → IsErrAnd q (λ s. Refusing s (at e)))
+    → ((x : T) → r ≡ Ok x → P x) → ((e : E) → r ≡ Err e → Q (at e)) → Tells q P Q
+mapped (Ok x) q at P Q kept turned f h = subst (λ z. Tells z P Q) (sym (kept x refl)) (f x refl)
+mapped (Err e) q at P Q kept turned f h = turns_into q (at e) P Q (turned e refl) (h e refl)
+
 -- what is said is what was told
 pub said : {T : Type 0} (text : T → List ℕ) (r : Result T Stop) (P : Answer → Type 0) (a : Answer) → Tells r (λ x. P (Granted (text x))) P → Says text r a → P a
 said text (Ok x) P a t e = subst P (sym e) t
@@ -120,15 +141,15 @@ ending-cases : (b : Bool) (A : Type 0) → (b ≡ true → A) → (b ≡ false �
 ending-cases true A f h = f refl
 ending-cases false A f h = h refl
 
-pub ended : (rest : List ℕ) → Ok tt ≡ ending rest → rest ≡ []
+pub ended : (rest : List ℕ) → is_ok (ending rest) ≡ true → rest ≡ []
 ended rest e =
     ending-cases (eqb (length rest) 0) (rest ≡ []) (λ b. nil_from_length rest (eqb-true (length rest) 0 b))
-    (λ b. let f : ◌≡◌ {A = Result (Unit {0}) Fault} (Ok tt) (Err Excess) = e ∙ ap (λ x. cond x (Ok tt) (Err Excess)) b in let z : ◌≡◌ {A = ℕ} 0 1 = cc in absurd (omega arith))
+    (λ b. absurd (false≢true (sym (ap (λ x. is_ok (cond x (Ok tt) (Err Excess))) b) ∙ e)))
 
-pub unended : (f : Fault) (rest : List ℕ) → Err f ≡ ending rest → 0 < length rest
-unended f rest e =
+pub unended : (rest : List ℕ) → is_ok (ending rest) ≡ false → 0 < length rest
+unended rest e =
     ending-cases (eqb (length rest) 0) (0 < length rest)
-    (λ b. let h : ◌≡◌ {A = Result (Unit {0}) Fault} (Err f) (Ok tt) = e ∙ ap (λ x. cond x (Ok tt) (Err Excess)) b in let z : ◌≡◌ {A = ℕ} 0 1 = cc in absurd (omega arith))
+    (λ b. absurd (false≢true (sym e ∙ ap (λ x. is_ok (cond x (Ok tt) (Err Excess))) b)))
     (λ b. omega (arith, eqb-false (length rest) 0 b))
 
 -- the end of the dealing, in the terms of the code
@@ -178,12 +199,6 @@ pub unrowed_by : (known : Known) (t n : ℕ) (text start mid : List ℕ) (w : Wa
 unrowed_by known t n text start mid w a es short head ew b =
     no_row short known t n mid (subst (λ x. PlanHead known t n x mid) es head) b.0 b.1 (subst (λ x. Broken x (n - t) b.0 mid b.1) ew b.2) b.3
 
--- what is left after the lines of a plan is not too long
-pub plan_lines_shorter : (known : Known) (t n : ℕ) (rows text rest : List ℕ) → PlanLines known t n rows text rest → length rest ≤ longest_text
-plan_lines_shorter known t n rows text rest p =
-    omega (arith, p.short, plan_shorter known t n text p.middle p.head, block_shorter kind.Row t (n - t) p.middle rows rest p.rows_are)
-
--- what holds of the field that was chosen and of the rows that were lent holds of those of the plan
-pub in_field : (R : Operations → List ℕ → Type 0) (known field : Known) (rows items : List ℕ) → known ≡ field → rows ≡ items
-    → R (operations field) rows → R (operations known) items
-in_field R known field rows items ek er r = subst (λ k. R (operations k) items) (sym ek) (subst (R (operations field)) er r)
+-- what holds of the field that was chosen holds of that of the plan
+pub in_field : (R : Operations → Type 0) (known field : Known) → known ≡ field → R (operations field) → R (operations known)
+in_field R known field e r = subst (λ k. R (operations k)) (sym e) r

@@ -1,5 +1,5 @@
 -- What a line that was read says: a plan, a key, or a row or dummy key of a block. Assumes nothing.
-use Rattle.std.proofs.Common.{◌≡◌, ℕ, ◌-◌, ◌%◌, ◌^◌, ◌<◌, ◌≤◌, true, ◌&&◌, eqb, ltb, List, [], ◌++◌, map, length, get_or, take, drop, Ok, sym, refl, ap, ◌∙◌, subst, ⊎_elim, arith, length-append, length-drop, length-take}
+use Rattle.std.proofs.Common.{◌≡◌, ℕ, ◌-◌, ◌%◌, ◌^◌, ◌<◌, ◌≤◌, true, ◌&&◌, eqb, ltb, List, [], ◌++◌, length, get_or, take, drop, Ok, sym, refl, ap, ◌∙◌, subst, ⊎_elim, arith, length-drop, length-take}
 use Rattle.std.specs.Int.Digits.{AllBelowBase}
 use Rattle.std.proofs.lemmas.List.{take_all}
 use Rattle.std.proofs.lemmas.Bool.{and_parts, or_cases, eqb-true, leb-true, ltb-true}
@@ -8,24 +8,23 @@ use Rattle.field.specs.declared.known.Known.{Known}
 use Rattle.field.specs.declared.known.Known.TheVariants.{Bytes, Modulo97}
 use Rattle.lines.specs.Digits.{numeral, spelled}
 use Rattle.lines.specs.Lines.{Content, Kept, among, content, head, kind_of, parts, parts_of, planned, reading, told}
+use Rattle.lines.specs.Readers.{left, longest_text, standing}
 use Rattle.lines.specs.Shapes.{shaped, spaced}
 use Rattle.lines.specs.Writing.{written}
-use Rattle.lines.specs.declared.kind.Kind.{Kind}
 use Rattle.lines.specs.declared.kind.Kind.TheVariants as kind
 use Rattle.lines.specs.declared.line.Line.{Line}
 use Rattle.lines.specs.declared.line.Line.TheVariants as line
 use Rattle.lines.specs.declared.part.Part.{Part}
+use Rattle.lines.specs.declared.reader.Reader.{Reader}
 use Rattle.lines.specs.declared.wanted.Wanted.{Wanted}
 use Rattle.lines.specs.declared.wanted.Wanted.TheVariants as wanted
 use Rattle.lines.proofs.Numerals.{numeral_below, under_spelled}
 use Rattle.lines.proofs.Readings.{read_ok}
 use Rattle.lines.proofs.Spelling.{length-spelled}
-use Rattle.programs.specs.Answers.{Answer, Stops}
-use Rattle.programs.specs.Answers.Answer.{Refuses}
+use Rattle.programs.specs.Answers.{Answer, Stops, noticed}
 use Rattle.programs.specs.declared.stop.Stop.{Stop}
 use Rattle.programs.specs.declared.stop.Stop.TheVariants.{Refused, NoMemory}
-use Rattle.programs.specs.Texts as texts
-use Rattle.programs.specs.Texts.{Block, KeyHead, Plain, PlanHead, WantsPlan, data_line, key_line, known_marks, plan_line, text_of, width}
+use Rattle.programs.specs.Texts.{KeyHead, Plain, PlanHead, WantsPlan, data_line, key_line, known_marks, plan_line, width}
 
 -- a known mark is that of a field
 pub marked : (f : ℕ) → among f known_marks ≡ true → ((k : Known) → (operations k).mark ≡ f → ⊥) → ⊥
@@ -64,21 +63,13 @@ key_head want l mark key m text rest wants is t p k w e =
       is = sym w ∙ ap (λ x. written (content x) ++ rest) is ∙ ap (λ x. written (key_line x (spelled key.digits.now)) ++ rest) (sym all);
     }
 
--- what is left after a key line is shorter
-pub key_shorter : (m : ℕ) (key text rest : List ℕ) → KeyHead m key text rest → length rest ≤ length text
-key_shorter m key text rest h = omega (arith, ap length h.is, length-append (written (key_line m key)) rest)
-
--- what is left after a plan line is shorter
-pub plan_shorter : (known : Known) (t n : ℕ) (text rest : List ℕ) → PlanHead known t n text rest → length rest ≤ length text
-plan_shorter known t n text rest h = omega (arith, ap length h.is, length-append (written (plan_line (operations known).mark t n)) rest)
-
--- what is left after a block is shorter
-pub block_shorter : (k : Kind) (w n : ℕ) (text xs rest : List ℕ) → Block k w n text xs rest → length rest ≤ length text
-block_shorter k w n text xs rest b = omega (arith, ap length b.is, length-append (text_of (map (data_line k) (texts.parts n w xs))) rest)
+-- what is left to a reader is not too long
+pub left_short : (r : Reader) → length (left (standing r)) ≤ longest_text
+left_short r = omega (arith, r.short, length-drop r.start r.text.now)
 
 -- a stop says what follows from what it says
 pub stops_more : (s : Stop) (P Q : Answer → Type 0) → ((a : Answer) → P a → Q a) → Stops s P → Stops s Q
-stops_more (Refused r) P Q f h = f (Refuses r.number r.carries r.line) h
+stops_more (Refused n) P Q f h = f (noticed n) h
 stops_more NoMemory P Q f h = tt
 
 -- what is kept by a plan line that is wanted

@@ -16,10 +16,10 @@ use Rattle.deal.specs.Sharings.{rotated}
 use Rattle.deal.specs.Calls.{Answer, fresh, held, is_out, is_written, moved, settled, standing, take_answer, take_after, take_rules, write_answer, write_after, write_rules}
 use Rattle.deal.specs.Calls.Answer.{Refused, Given, Data}
 use Rattle.deal.specs.declared.state.Blank.{Blank}
-use Rattle.deal.specs.declared.state.Mark.{Mark}
 use Rattle.deal.specs.declared.state.State.{State}
 use Rattle.deal.specs.declared.state.CardState.TheVariants.{Waiting, Out, Written}
 use Rattle.lines.specs.Lines.{Content}
+use Rattle.lines.specs.declared.mark.DealMark.{DealMark}
 use Rattle.lines.specs.Writing.{written}
 use Rattle.programs.specs.Progress.{Ready}
 use Rattle.programs.specs.Texts.{card_line, text_of}
@@ -151,7 +151,7 @@ module _ (o : Operations) (p : Plan) (L j : ℕ) (d : State) (s : List ℕ) (beg
         })
 
 -- a new deal is ready for its first card
-pub ready_fresh : (p : Plan) (L : ℕ) (mark : Mark) (d : State) → d ≡ fresh mark p.t p.n L → Ready p L 0 d
+pub ready_fresh : (p : Plan) (L : ℕ) (mark : DealMark) (d : State) → d ≡ fresh mark p.t p.n L → Ready p L 0 d
 ready_fresh p L mark d e = subst (Ready p L 0) (sym e) (record {
   t = refl;
   n = refl;

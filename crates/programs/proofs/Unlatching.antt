@@ -1,8 +1,8 @@
 -- What the opening program makes of the answer of the slot. Assumes nothing.
-use Rattle.std.proofs.Common.{◌≡◌, ℕ, ◌-◌, ◌≤◌, Bool, true, false, cond, ◌&&◌, ◌||◌, ltb, leb, List, [], ◌∷◌, length, take, drop, replicate, Some, None, Ok, Err, Option, Result, sym, refl, ap, ◌∙◌, subst, arith}
+use Rattle.std.proofs.Common.{◌≡◌, ℕ, Bool, true, false, cond, ◌||◌, ltb, List, [], ◌∷◌, length, replicate, Some, None, Ok, Err, Option, Result, sym, refl, ap, ◌∙◌, subst, arith}
 use Rattle.std.specs.List.{AllByRecursion}
-use Rattle.std.proofs.lemmas.List.{take-replicate}
-use Rattle.std.proofs.lemmas.Bool.{and_parts, false≢true, leb-true}
+use Rattle.std.specs.Result.{IsErrAnd}
+use Rattle.std.proofs.lemmas.Bool.{false≢true}
 use Rattle.field.specs.Codes.{Operations}
 use Rattle.field.specs.Refusals.{Rule, foremost}
 use Rattle.field.specs.declared.refusal.Refusal.{Refusal}
@@ -11,23 +11,21 @@ use Rattle.lines.specs.Faults.{fault_number}
 use Rattle.lines.specs.Writing.{written}
 use Rattle.lines.specs.declared.fault.Fault.{Fault}
 use Rattle.lines.specs.declared.fault.Fault.TheVariants.{Absent, Byte, Unwanted, Shape, Limits, Length, Excess}
-use Rattle.field.specs.Rows.{within}
-use Rattle.slot.specs.Holdings.{Holding, holding, within_limits}
+use Rattle.slot.specs.Holdings.{Holding}
 use Rattle.slot.specs.Refusals.{listing}
 use Rattle.slot.specs.Unlocks.{Settled, Unlocked, raised, size_held, unlock_table}
-use Rattle.slot.specs.declared.memory.State.{State}
 use Rattle.slot.specs.declared.phase.Heading.{Heading}
 use Rattle.slot.specs.declared.refusal.SlotRefusal.{SlotRefusal}
 use Rattle.slot.specs.declared.refusal.SlotRefusal.TheVariants.{Line, Shared, OtherDeal, HeldAlready, NotHeld, OtherPlan, TooFew}
-use Rattle.programs.specs.Answers.{no_line}
-use Rattle.programs.specs.Answers.Answer.{Grants}
+use Rattle.programs.specs.Answers.{Refusing, Stops, Tells, no_line}
+use Rattle.programs.specs.Answers.Answer.{Grants, Refuses}
 use Rattle.programs.specs.Gathering.{Short}
 use Rattle.programs.specs.Opening.{Unlocking}
 use Rattle.programs.specs.Opening.Unlocking.{gives_key, stays_shut}
 use Rattle.programs.specs.Texts.{key_line}
 use Rattle.programs.specs.Vetting.{room}
-use Rattle.programs.specs.declared.stop.Notice.{Notice}
-use Rattle.programs.proofs.Chain.{refusing}
+use Rattle.programs.specs.declared.stop.Stop.{Stop}
+use Rattle.programs.proofs.Chain.{mapped}
 
 -- the number is not one of a line's fault
 abbrev Beside : ℕ → Bool
@@ -75,34 +73,35 @@ module _ (o : Operations) (p : Plan) (s : Holding) (before after : List ℕ) (wo
   unlock_short OtherPlan h = tt
   unlock_short (TooFew m) h = tt
 
--- a key has at most 64 numbers
-pub size_most : (s : State) (h : Heading) (n : ℕ) → (holding s).first ≡ Some h → n ≡ h.size → within_limits (holding s).first ≡ true → n ≤ 64
-size_most s h n held e limits =
-    let at = subst (λ x. within_limits x ≡ true) held limits in
-    let sizes = and_parts (leb 1 h.size) (leb h.size 64) (and_parts (within h.t h.n) (leb 1 h.size && leb h.size 64) at).1 in
-    omega (arith, e, leb-true h.size 64 sizes.1)
-
--- the first numbers of a place of zeros
-pub zeros_part : (n size : ℕ) → n ≡ size → n ≤ 64 → take (n - 0) (drop 0 (replicate {A = ℕ} 64 0)) ≡ replicate size 0
-zeros_part n size e h =
-    let all : n - 0 ≡ n = omega arith in
-    ap (λ k. take k (replicate {A = ℕ} 64 0)) all ∙ take-replicate {X = ℕ} n 64 0 h ∙ ap (λ k. replicate k 0) e
-
 -- what the slot answers, as the program tells it
 module _ (o : Operations) (p : Plan) (s : Holding) (h : Heading) (held : s.first ≡ Some h) (place after : List ℕ) (n workspace : ℕ)
     (size : n ≡ h.size) (zeros : place ≡ replicate n 0) (lent : workspace ≡ room) where
   place_is : place ≡ replicate (size_held s) 0
   place_is = zeros ∙ ap (λ k. replicate k 0) (size ∙ sym (ap (λ (x : Option Heading). elim x [ Some y ↦ y.size | None ↦ 0 ]) held))
 
-  pub told_refusal : (e : SlotRefusal) (w : Notice) → w ≡ record { number = (listing e).0; carries = (listing e).1; line = no_line }
-      → Unlocked o p s place after workspace (Err e) → Unlocking o p s (refusing w)
-  told_refusal e w is u =
+  told_refusal : (e : SlotRefusal) → Unlocked o p s place after workspace (Err e) → Unlocking o p s (Refuses (listing e).0 (listing e).1 no_line)
+  told_refusal e u =
       stays_shut after (Err e) ((listing e).0, (listing e).1)
-      (subst (λ x. Unlocked o p s x after room (Err e)) place_is (subst (λ x. Unlocked o p s place after x (Err e)) lent u)) refl (ap refusing is)
+      (subst (λ x. Unlocked o p s x after room (Err e)) place_is (subst (λ x. Unlocked o p s place after x (Err e)) lent u)) refl refl
 
-  pub told_key : (v : Unit {0}) (bytes : List ℕ) → bytes ≡ written (key_line h.mark.number after)
+  opened_key : (v : Unit {0}) (bytes : List ℕ) → bytes ≡ written (key_line h.mark.number after)
       → Unlocked o p s place after workspace (Ok v) → Unlocking o p s (Grants bytes)
-  told_key v bytes is u =
+  opened_key v bytes is u =
       gives_key after (Ok v)
       (subst (λ x. Unlocked o p s x after room (Ok v)) place_is (subst (λ x. Unlocked o p s place after x (Ok v)) lent u)) refl
       (ap Grants (is ∙ ap (λ m. written (key_line m after)) (sym (ap (λ (x : Option Heading). elim x [ Some y ↦ y.mark.number | None ↦ 0 ]) held))))
+
+  module _ (r : Result (Unit {0}) SlotRefusal) (q : Result (Unit {0}) Stop) (kept : (v : Unit {0}) → r ≡ Ok v → q ≡ Ok v)
+      (turned : (e : SlotRefusal) → r ≡ Err e → IsErrAnd q (λ z. Refusing z (Refuses (listing e).0 (listing e).1 no_line)))
+      (u : Unlocked o p s place after workspace r) where
+    told : Tells q (λ v. Unlocked o p s place after workspace (Ok v)) (λ a. Unlocking o p s a)
+    told =
+        mapped r q (λ e. Refuses (listing e).0 (listing e).1 no_line) _ _ kept turned
+        (λ v is. subst (λ x. Unlocked o p s place after workspace x) is u) (λ e is. told_refusal e (subst (λ x. Unlocked o p s place after workspace x) is u))
+
+    pub told_stop : (z : Stop) → q ≡ Err z → Stops z (λ a. Unlocking o p s a)
+    told_stop z is = subst (λ x. Tells x (λ v. Unlocked o p s place after workspace (Ok v)) (λ a. Unlocking o p s a)) is told
+
+    pub told_key : (v : Unit {0}) (bytes : List ℕ) → bytes ≡ written (key_line h.mark.number after) → q ≡ Ok v → Unlocking o p s (Grants bytes)
+    told_key v bytes is kept_is =
+        opened_key v bytes is (subst (λ x. Tells x (λ w. Unlocked o p s place after workspace (Ok w)) (λ a. Unlocking o p s a)) kept_is told)

@@ -2,14 +2,17 @@
 --   Answer    what is answered
 --   no_line   the line number of a refusal that no line is to blame for
 --   at_line   the refusal of a fault in a line
+--   noticed   the refusal that a notice is
 --   Tells     what an answer of the code, which may also want memory, says of the text
 --   Says      which answer it is
 --   output    the text that is written
-use Rattle.std.specs.Prelude.{◌≡◌, ℕ, Bool, true, false, List, Ok, Err, Result}
+use Rattle.std.specs.Prelude.{◌≡◌, ℕ, Bool, true, false, List, unwrap_or, Ok, Err, Result}
 use Rattle.lines.specs.Faults.{fault_number, fault_carries}
 use Rattle.lines.specs.Writing.{written}
 use Rattle.lines.specs.declared.fault.Fault.{Fault}
+use Rattle.slot.specs.Refusals.{listing}
 use Rattle.programs.specs.Texts.{refusal_line}
+use Rattle.programs.specs.declared.notice.Notice.{Notice}
 use Rattle.programs.specs.declared.stop.Stop.{Stop}
 use Rattle.programs.specs.declared.stop.Stop.TheVariants.{Refused, NoMemory}
 
@@ -24,9 +27,12 @@ no_line = 0xFFFF
 abbrev pub at_line : Fault → (line : ℕ) → Answer
 at_line f line = Refuses (fault_number f) (fault_carries f) line
 
+abbrev pub noticed : Notice → Answer
+noticed n = Refuses (listing n.refusal).0 (listing n.refusal).1 (unwrap_or n.line no_line)
+
 -- the refusal that a program stops with, which is no answer where memory is wanting
 abbrev pub Stops : Stop → (Answer → Type 0) → Type 0
-Stops (Refused r) P = P (Refuses r.number r.carries r.line)
+Stops (Refused n) P = P (noticed n)
 Stops NoMemory P = Unit {0}
 
 -- what a granted value or a stop says
@@ -36,7 +42,7 @@ Tells (Err s) P Q = Stops s Q
 
 -- the refusal that it is, which is none where memory is wanting
 abbrev pub Refusing : Stop → Answer → Type 0
-Refusing (Refused r) a = a ≡ Refuses r.number r.carries r.line
+Refusing (Refused n) a = a ≡ noticed n
 Refusing NoMemory a = ⊥
 
 -- a granted value, of which the text is written, or a refusal

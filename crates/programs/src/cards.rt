@@ -10,95 +10,63 @@ ghost use Rattle.programs.specs.Dealing.{Unbegun, cards_text};
 ghost use Rattle.programs.specs.Progress.{Ready};
 ghost use Rattle.sharing.specs.Scheme.{card, lanes};
 
-use crate::stop::{Stop, refused};
+use crate::stop::Stop;
+use crate::store::KeyText;
 use deal::begin::begin;
 use deal::deal::Deal;
-use deal::state::Mark;
 use field::Field;
-use lines::{DealMark, Entry};
+use lines::Entry;
 use plan_check::plan::{Checked, Vetted};
+use sharing::plan::lanes;
 use std::alloc::{AllocError, Global};
 
-// The most numbers that a card has: 64, rounded up to a multiple of at most 8.
-const MOST_NUMBERS: usize = 72;
-
 // Takes the blank of card `j`, whose turn it is, and writes the card on it.
-fn put_card<F: Field>(
-    deal: &mut Deal,
-    plan: &Vetted,
-    len: u8,
-    store: &[u8],
-    j: u8,
-    place: &mut [u8],
-)
-    requires begun { foremost (begin_rules F.Field.ops (vetted_plan plan.now) len store.now) ≡ None }
-    requires ready { Ready (vetted_plan plan.now) len j deal.old.state }
+fn put_card<F: Field>(deal: &mut Deal, plan: &Vetted, key: &KeyText, j: u8, place: &mut [u8])
+    requires begun { foremost (begin_rules F.Field.ops (vetted_plan plan.now) key.now.size key.now.store.items) ≡ None }
+    requires ready { Ready (vetted_plan plan.now) key.now.size j deal.old.state }
     requires below { j < (vetted_plan plan.now).n }
-    requires room { length place.old ≡ (vetted_plan plan.now).t * lanes (vetted_plan plan.now).t len }
-    ensures data { place.new ≡ card F.Field.ops (vetted_plan plan.now) (lanes (vetted_plan plan.now).t len) store.now j }
-    ensures ready { Ready (vetted_plan plan.now) len (j + 1) deal.new.state }
+    requires room { length place.old ≡ (vetted_plan plan.now).t * lanes (vetted_plan plan.now).t key.now.size }
+    ensures data { place.new ≡ card F.Field.ops (vetted_plan plan.now) (lanes (vetted_plan plan.now).t key.now.size) key.now.store.items j }
+    ensures ready { Ready (vetted_plan plan.now) key.now.size (j + 1) deal.new.state }
 {
-    match deal.take(j) {
-        Ok(blank) => match blank.write::<F>(deal, plan, store, place) {
-            Ok(()) => {}
-            Err(_) => unreachable(),
-        },
-        Err(_) => unreachable(),
-    }
+    let blank = deal.take(j).unwrap();
+    blank.write::<F>(deal, plan, &key.store, place).unwrap()
 }
 
 // Puts a line behind the text.
-pub(crate) fn put_line(heap: Global, entry: Entry<'_>, text: &mut String) -> Result<(), AllocError>
+fn put_line(heap: Global, entry: Entry<'_>, text: &mut String) -> Result<(), AllocError>
     ensures { OnOk result (string_bytes text.new ≡ string_bytes text.old ++ written (entered entry.entry)) }
 {
     let line = entry.text(heap)?;
     text.push_str(line.as_str())
 }
 
-// Begins a deal of a key of `len` numbers from its store, and writes all its cards as lines, lowest first.
+// Begins a deal of a key from its store, and writes all its cards as lines, lowest first.
 pub(crate) fn write_cards<F: Field>(
     heap: Global,
     plan: &Vetted,
-    mark: DealMark,
-    len: u8,
-    store: &[u8],
+    key: &KeyText,
 ) -> Result<String, Stop>
-    ensures { Tells result (λ s. (foremost (begin_rules F.Field.ops (vetted_plan plan.now) len store.now) ≡ None) × (string_bytes s ≡ cards_text F.Field.ops (vetted_plan plan.now) mark.number len store.now)) (λ a. Unbegun F.Field.ops (vetted_plan plan.now) len store.now a) }
+    ensures { Tells result (λ s. (foremost (begin_rules F.Field.ops (vetted_plan plan.now) key.now.size key.now.store.items) ≡ None) × (string_bytes s ≡ cards_text F.Field.ops (vetted_plan plan.now) key.now.mark.number key.now.size key.now.store.items)) (λ a. Unbegun F.Field.ops (vetted_plan plan.now) key.now.size key.now.store.items a) }
 {
-    let size = usize::from(len);
-    let mut deal = match begin::<F>(
-        plan,
-        Mark {
-            number: mark.number,
-        },
-        size,
-        store,
-    ) {
-        Ok(deal) => deal,
-        Err(refusal) => return Err(Stop::Refused(refused(refusal))),
-    };
+    let mut deal = begin::<F>(plan, key.mark, usize::from(key.size), &key.store)?;
     let t = plan.threshold();
     let n = plan.cards();
-    let width = usize::from(t);
-    let mut numbers = [0u8; MOST_NUMBERS];
-    let room = width * ((size + (width - 1)) / width);
-    let place = &mut numbers[0..room];
+    let mut numbers = vec![in heap; 0u8; usize::from(t) * lanes(t, key.size)]?;
+    let place = &mut numbers[..];
     let mut text = String::new(heap);
     for j in 0..n {
-        put_card::<F>(&mut deal, plan, len, store, j, place);
-        put_line(
-            heap,
-            Entry::Card {
-                field: F::mark(),
-                mark,
-                t,
-                n,
-                card: j,
-                size: len,
-                numbers: place,
-            },
-            &mut text,
-        )?;
+        put_card::<F>(&mut deal, plan, key, j, place);
+        let card = Entry::Card {
+            field: F::mark(),
+            mark: key.mark,
+            t,
+            n,
+            card: j,
+            size: key.size,
+            numbers: place,
+        };
+        put_line(heap, card, &mut text)?;
     }
     Ok(text)
 }

@@ -1,5 +1,5 @@
 // The dealing program, from text to text.
-ghost use Rattle.std.specs.Prelude.{◌≡◌, ◌+◌, ◌-◌, ◌≤◌, length, IfOk, string_bytes};
+ghost use Rattle.std.specs.Prelude.{◌≡◌, ◌+◌, ◌-◌, ◌≤◌, IfOk, string_bytes};
 ghost use Rattle.plan_check.specs.Plans.{vetted_plan};
 ghost use Rattle.lines.specs.Readers.{left, standing};
 ghost use Rattle.programs.specs.Answers.{Answer, Tells, granted, output};
@@ -12,7 +12,7 @@ pub use crate::output::Output;
 use crate::output::say;
 use crate::planning::{PlanText, read_plan_lines};
 use crate::plans::vet_plan;
-use crate::stop::{Stop, excess};
+use crate::stop::Stop;
 use crate::store::read_store;
 use field::Field;
 use field::gf97::Gf97;
@@ -30,46 +30,36 @@ fn deal_key<F: Field>(
     line: u16,
 ) -> Result<String, Stop>
     requires limits { (2 ≤ (vetted_plan plan.now).t) × ((vetted_plan plan.now).t ≤ 8) }
-    requires short { length (left (standing reader.old)) ≤ 4096 }
     requires line { line ≤ 100 }
     ensures { Tells result (λ s. Dealt F.Field.ops (vetted_plan plan.now) line (left (standing reader.old)) (Grants (string_bytes s))) (λ a. Dealt F.Field.ops (vetted_plan plan.now) line (left (standing reader.old)) a) }
 {
-    let mut store = Vec::new(heap);
-    let (mark, size) = read_store(reader, plan.threshold(), line, &mut store)?;
-    match reader.end() {
-        Ok(()) => write_cards::<F>(heap, plan, mark, size, &store),
-        Err(_) => Err(Stop::Refused(excess())),
-    }
+    let text = read_store(heap, reader, plan.threshold(), line)?;
+    reader.end().map_err(|_| Stop::excess())?;
+    write_cards::<F>(heap, plan, &text)
 }
 
 // Checks a plan that was read, and deals with it.
-fn deal_plan<F: Field>(
-    heap: Global,
-    reader: &mut Reader<'_>,
-    t: u8,
-    n: u8,
-    rows: &[u8],
-) -> Result<String, Stop>
-    requires limits { (2 ≤ t) × (t ≤ n) × (n ≤ 8) }
-    requires short { length (left (standing reader.old)) ≤ 4096 }
-    ensures { Tells result (λ s. Examined F.Field.ops (plan_of t n rows.now) (1 + (n - t)) (left (standing reader.old)) (Grants (string_bytes s))) (λ a. Examined F.Field.ops (plan_of t n rows.now) (1 + (n - t)) (left (standing reader.old)) a) }
-{
-    let plan = vet_plan::<F>(t, n, rows)?;
-    deal_key::<F>(heap, reader, &plan, 1 + u16::from(n - t))
-}
-
-// The cards of the deal that a text describes, or why there are none.
-fn deal_text(heap: Global, text: &[u8]) -> Result<String, Stop>
-    ensures { Tells result (λ s. Dealing text.now (Grants (string_bytes s))) (λ a. Dealing text.now a) }
+fn deal_plan<F: Field>(heap: Global, text: PlanText<'_>) -> Result<String, Stop>
+    ensures { Tells result (λ s. Examined F.Field.ops (plan_of text.entry.plan.t text.entry.plan.n text.entry.rows.items) (1 + (text.entry.plan.n - text.entry.plan.t)) (left (standing text.entry.reader)) (Grants (string_bytes s))) (λ a. Examined F.Field.ops (plan_of text.entry.plan.t text.entry.plan.n text.entry.rows.items) (1 + (text.entry.plan.n - text.entry.plan.t)) (left (standing text.entry.reader)) a) }
 {
     let PlanText {
         plan,
         rows,
         mut reader,
-    } = read_plan_lines(heap, text)?;
-    match plan.known {
-        Known::Bytes => deal_plan::<Gf256>(heap, &mut reader, plan.t, plan.n, &rows),
-        Known::Modulo97 => deal_plan::<Gf97>(heap, &mut reader, plan.t, plan.n, &rows),
+    } = text;
+    let vetted = vet_plan::<F>(plan, &rows)?;
+    deal_key::<F>(heap, &mut reader, &vetted, 1 + u16::from(plan.n - plan.t))
+}
+
+// The cards of the deal that a text describes, or why there are none.
+// Stays: a closure cannot be generic over the field, and a trait for one would be longer than the arms.
+fn deal_text(heap: Global, text: &[u8]) -> Result<String, Stop>
+    ensures { Tells result (λ s. Dealing text.now (Grants (string_bytes s))) (λ a. Dealing text.now a) }
+{
+    let lines = read_plan_lines(heap, text)?;
+    match lines.plan.known {
+        Known::Bytes => deal_plan::<Gf256>(heap, lines),
+        Known::Modulo97 => deal_plan::<Gf97>(heap, lines),
     }
 }
 

@@ -7,7 +7,7 @@ ghost use Rattle.slot.specs.Holdings.{holding};
 ghost use Rattle.slot.specs.Inserts.{insert_after, insert_refusal, nothing};
 ghost use Rattle.slot.specs.declared.refusal.SlotRefusal.{SlotRefusal as SlotRefused};
 
-use crate::stop::{Stop, card_refused};
+use crate::stop::Stop;
 use field::Field;
 use lines::Reader;
 use slot::slot::Slot;
@@ -17,10 +17,8 @@ fn put_in<F: Field>(slot: &mut Slot<F>, text: &[u8], line: u16) -> Result<(), St
     requires { length text.now ≤ 4096 }
     ensures { Tells result (λ _. (insert_refusal F.Field.ops (holding slot.old.state) text.now ≡ None) × (holding slot.new.state ≡ insert_after F.Field.ops (holding slot.old.state) text.now)) (λ a. (e : SlotRefused) × (insert_refusal F.Field.ops (holding slot.old.state) text.now ≡ Some e) × (a ≡ at_card e line)) }
 {
-    match slot.insert(text) {
-        Ok(()) => Ok(()),
-        Err(refusal) => Err(Stop::Refused(card_refused(refusal, line))),
-    }
+    slot.insert(text)
+        .map_err(|refusal| Stop::at_card(refusal, line))
 }
 
 // Puts the t cards that are left of a text into an empty slot. The first of them is in the line with that number.
@@ -32,7 +30,6 @@ pub(crate) fn gather<F: Field>(
 ) -> Result<(), Stop>
     requires empty { holding slot.old.state ≡ nothing }
     requires some { 1 ≤ t }
-    requires short { length (left (standing reader.old)) ≤ 4096 }
     requires line { line ≤ 100 }
     ensures { Tells result (λ _. Taken F.Field.ops t (left (standing reader.old)) (holding slot.new.state) []) (λ a. Ungathered F.Field.ops t line (left (standing reader.old)) a) }
 {

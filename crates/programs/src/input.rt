@@ -1,5 +1,5 @@
 // Reading what a program is handed on standard input.
-ghost use Rattle.std.specs.Prelude.{◌≤◌, length, IfOk};
+ghost use Rattle.std.specs.Prelude.{◌≤◌, vec_len, IfOk};
 
 use std::io;
 use std::io::Read;
@@ -7,18 +7,13 @@ use std::io::Read;
 // One byte more than the longest text that is read, so that a longer one shows.
 pub const MOST_BYTES: usize = 4097;
 
-// Fills the place from standard input, as far as that goes; answers how many bytes came.
-pub fn fill(rt: &HostRuntime, place: &mut [u8]) -> io::Result<usize>
-    ensures { IfOk result (λ n. n ≤ length place.old) }
+// The text on standard input, or as much of it as shows that it is too long.
+pub fn read_text(rt: &HostRuntime) -> io::Result<Vec<u8>>
+    ensures { IfOk result (λ text. vec_len text ≤ 4097) }
 {
-    let mut input = rt.stdin();
-    let mut count = 0;
-    for _ in 0..place.len() {
-        let got = input.read(&mut place[count..])?;
-        if got == 0 {
-            break;
-        }
-        count += got;
-    }
-    Ok(count)
+    let mut text = Vec::new(rt.alloc());
+    let mut input = rt.stdin().take(MOST_BYTES as u64);
+    input.read_to_end(&mut text)?;
+    text.truncate(MOST_BYTES);
+    Ok(text)
 }

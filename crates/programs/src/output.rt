@@ -2,13 +2,15 @@
 ghost use Rattle.lines.specs.Entries.{entered};
 ghost use Rattle.programs.specs.Answers.{Answer, Says, granted, output};
 ghost use Rattle.programs.specs.Texts.{refusal_line};
-ghost use Rattle.std.specs.Prelude.{◌≡◌, IfOk, string_bytes};
+ghost use Rattle.slot.specs.Refusals.{listing};
+ghost use Rattle.std.specs.Prelude.{◌≡◌, IfOk, string_bytes, unwrap_or};
 
-use crate::cards::put_line;
-use crate::stop::{Notice, Stop};
+use crate::notice::Notice;
+use crate::stop::Stop;
 use lines::Entry;
 use std::alloc::{AllocError, Global};
 
+// Stays: an enum would hold a text in both its cases, and whoever writes the text would match on it to take it out.
 #[derive(Drop)]
 pub struct Output {
     pub text: String,
@@ -17,11 +19,11 @@ pub struct Output {
 
 // The line of a refusal. It is made by a call, since the checker follows a value that could hold a loan only from a call.
 fn refusal_entry(notice: Notice) -> Entry<'static>
-    ensures { entered result ≡ refusal_line notice.number notice.carries notice.line }
+    ensures { entered result ≡ refusal_line (listing notice.refusal).0 (listing notice.refusal).1 (unwrap_or notice.line 0xFFFF) }
 {
     Entry::Refusal {
-        number: notice.number,
-        carries: notice.carries,
+        number: notice.refusal.number(),
+        carries: notice.refusal.carried() as u16,
         line: notice.line,
     }
 }
@@ -35,16 +37,10 @@ pub(crate) fn say(heap: Global, came: Result<String, Stop>) -> Result<Output, Al
             text,
             granted: true,
         }),
-        Err(stop) => match stop {
-            Stop::Refused(notice) => {
-                let mut text = String::new(heap);
-                put_line(heap, refusal_entry(notice), &mut text)?;
-                Ok(Output {
-                    text,
-                    granted: false,
-                })
-            }
-            Stop::NoMemory => Err(AllocError),
-        },
+        Err(Stop::Refused(notice)) => Ok(Output {
+            text: refusal_entry(notice).text(heap)?,
+            granted: false,
+        }),
+        Err(Stop::NoMemory) => Err(AllocError),
     }
 }

@@ -3,8 +3,9 @@ ghost use Rattle.lines.specs.Readers.{left, standing};
 ghost use Rattle.programs.specs.Answers.{Tells};
 ghost use Rattle.programs.specs.Planning.{PlanLines, Unplanned};
 
-use crate::reading::{PlanLine, read_block, read_plan};
-use crate::stop::{Stop, at_line, excess};
+use crate::plan_line::PlanLine;
+use crate::reading::{read_block, read_plan};
+use crate::stop::Stop;
 use lines::{Reader, Wanted};
 use std::alloc::Global;
 
@@ -20,14 +21,8 @@ pub(crate) struct PlanText<'a> {
 pub(crate) fn read_plan_lines<'a>(heap: Global, text: &'a [u8]) -> Result<PlanText<'a>, Stop>
     ensures { Tells result (λ x. PlanLines x.plan.known x.plan.t x.plan.n x.rows.items text.now (left (standing x.reader))) (λ a. Unplanned text.now a) }
 {
-    let mut reader = match Reader::new(text) {
-        Ok(reader) => reader,
-        Err(_) => return Err(Stop::Refused(excess())),
-    };
-    let plan = match read_plan(&mut reader) {
-        Ok(plan) => plan,
-        Err(fault) => return Err(Stop::Refused(at_line(fault, 0))),
-    };
+    let mut reader = Reader::new(text).map_err(|_| Stop::excess())?;
+    let plan = read_plan(&mut reader)?;
     let mut rows = Vec::new(heap);
     read_block(
         &mut reader,

@@ -1,29 +1,24 @@
 // Reading the lines of a text, one after the other.
-ghost use Rattle.std.specs.Prelude.{◌≡◌, ℕ, ◌+◌, ◌≤◌, List, ◌++◌, length, Ok, Err, OnOk};
+ghost use Rattle.std.specs.Prelude.{◌≡◌, ℕ, ◌+◌, ◌≤◌, List, ◌++◌, Ok, Err, IfOk, OnOk};
 ghost use Rattle.lines.specs.Digits.{spelled};
-ghost use Rattle.lines.specs.Lines.{content, kind_of, reading};
+ghost use Rattle.lines.specs.Lines.{Kept, content, head, kind_of, parts, parts_of, reading, told};
 ghost use Rattle.lines.specs.Readers.{left, standing};
+ghost use Rattle.lines.specs.Writing.{written};
 ghost use Rattle.lines.specs.declared.fault.Fault.{Fault as AnyFault};
 ghost use Rattle.lines.specs.declared.kind.Kind.TheVariants.{Plan};
 ghost use Rattle.lines.specs.declared.wanted.Wanted.TheVariants.{Key};
 ghost use Rattle.programs.specs.Answers.{Tells, at_line};
 ghost use Rattle.programs.specs.Texts.{Block, Broken, KeyHead, NoPlan, Plain, PlanHead, WantsPlan, width};
 
-use crate::stop::{Stop, at_line};
-use field::known::{Known, by_mark};
-use lines::{DealMark, Fault, Line, Part, Reader, Wanted};
+use crate::plan_line::PlanLine;
+use crate::stop::Stop;
+use field::known::Known;
+use lines::{DealMark, Line, Part, Reader, Wanted};
 use std::alloc::AllocError;
 
 // The marks of the fields that there are.
+// Stays: a constant cannot ask a field for its mark, and the contract of `known_plan` says that these are they.
 const KNOWN_MARKS: [u8; 2] = [1, 2];
-
-// What a plan line says.
-#[derive(Clone, Copy)]
-pub(crate) struct PlanLine {
-    pub(crate) known: Known,
-    pub(crate) t: u8,
-    pub(crate) n: u8,
-}
 
 // What a key line says; the key is a part of the text.
 #[derive(Clone, Copy)]
@@ -42,27 +37,37 @@ fn known_plan() -> Wanted<'static>
     }
 }
 
-// Reads a plan line of a field that there is.
-pub(crate) fn read_plan(reader: &mut Reader<'_>) -> Result<PlanLine, Fault>
-    ensures { elim result [ Ok p ↦ PlanHead p.known p.t p.n (left (standing reader.old)) (left (standing reader.new)) | Err f ↦ NoPlan (left (standing reader.old)) f ] }
+// Reads the next line, which has this number.
+fn read_line<'a>(reader: &mut Reader<'a>, wanted: Wanted<'_>, line: u16) -> Result<Line<'a>, Stop>
+    ensures told { Tells result (λ l. told (Ok l) ≡ reading wanted.entry (left (standing reader.old))) (λ a. (f : AnyFault) × (reading wanted.entry (left (standing reader.old)) ≡ Err f) × (a ≡ at_line f line)) }
+    ensures parts { IfOk result (λ l. parts l ≡ parts_of (kind_of wanted.entry) (head (left (standing reader.old)))) }
+    ensures kept { IfOk result (λ l. Kept wanted.entry (content l)) }
+    ensures again { IfOk result (λ l. written (content l) ++ left (standing reader.new) ≡ left (standing reader.old)) }
 {
-    let line = reader.read(known_plan())?;
-    let Line::Plan { field, t, n } = line else {
-        unreachable()
+    reader
+        .read(wanted)
+        .map_err(|fault| Stop::at_line(fault, line))
+}
+
+// Reads a plan line of a field that there is, the first of a text.
+pub(crate) fn read_plan(reader: &mut Reader<'_>) -> Result<PlanLine, Stop>
+    ensures { Tells result (λ p. PlanHead p.known p.t p.n (left (standing reader.old)) (left (standing reader.new))) (λ a. (f : AnyFault) × NoPlan (left (standing reader.old)) f × (a ≡ at_line f 0)) }
+{
+    let Line::Plan { field, t, n } = read_line(reader, known_plan(), 0)? else {
+        unreachable!()
     };
-    let Some(known) = by_mark(field) else {
-        unreachable()
+    let Ok(known) = Known::try_from(field) else {
+        unreachable!()
     };
     Ok(PlanLine { known, t, n })
 }
 
-// Reads a key line.
-pub(crate) fn read_key<'a>(reader: &mut Reader<'a>) -> Result<KeyLine<'a>, Fault>
-    ensures { elim result [ Ok k ↦ KeyHead k.mark.number (spelled k.key.digits.now) (left (standing reader.old)) (left (standing reader.new)) | Err f ↦ reading Key (left (standing reader.old)) ≡ Err f ] }
+// Reads a key line, which has this number.
+pub(crate) fn read_key<'a>(reader: &mut Reader<'a>, line: u16) -> Result<KeyLine<'a>, Stop>
+    ensures { Tells result (λ k. KeyHead k.mark.number (spelled k.key.digits.now) (left (standing reader.old)) (left (standing reader.new))) (λ a. (f : AnyFault) × (reading Key (left (standing reader.old)) ≡ Err f) × (a ≡ at_line f line)) }
 {
-    let line = reader.read(Wanted::a_key())?;
-    let Line::Key { mark, data } = line else {
-        unreachable()
+    let Line::Key { mark, data } = read_line(reader, Wanted::a_key(), line)? else {
+        unreachable!()
     };
     Ok(KeyLine {
         mark: DealMark::of(mark),
@@ -74,10 +79,7 @@ pub(crate) fn read_key<'a>(reader: &mut Reader<'a>) -> Result<KeyLine<'a>, Fault
 pub(crate) fn push_part(part: Part<'_>, numbers: &mut Vec<u8>) -> Result<(), AllocError>
     ensures { OnOk result (numbers.new.items ≡ numbers.old.items ++ spelled part.entry.digits.now) }
 {
-    for k in 0..part.count() {
-        numbers.push(part.number(k))?;
-    }
-    Ok(())
+    numbers.extend(part.numbers())
 }
 
 // Puts the data of a line behind the numbers that are there.
@@ -85,23 +87,11 @@ fn push_data(line: Line<'_>, numbers: &mut Vec<u8>) -> Result<(), AllocError>
     ensures { OnOk result (numbers.new.items ≡ numbers.old.items ++ (content line.entry).numbers) }
 {
     match line {
-        Line::Plan {
-            field: _,
-            t: _,
-            n: _,
-        } => Ok(()),
-        Line::Row { data } => push_part(data, numbers),
-        Line::Card {
-            field: _,
-            mark: _,
-            t: _,
-            n: _,
-            card: _,
-            size: _,
-            data,
-        } => push_part(data, numbers),
-        Line::Key { mark: _, data } => push_part(data, numbers),
-        Line::Dummy { data } => push_part(data, numbers),
+        Line::Plan { .. } => Ok(()),
+        Line::Row { data }
+        | Line::Card { data, .. }
+        | Line::Key { data, .. }
+        | Line::Dummy { data } => push_part(data, numbers),
     }
 }
 
@@ -115,15 +105,12 @@ pub(crate) fn read_block(
     numbers: &mut Vec<u8>,
 ) -> Result<(), Stop>
     requires plain { Plain wanted }
-    requires short { length (left (standing reader.old)) ≤ 4096 }
     requires line { first ≤ 4096 }
     ensures { Tells result (λ _. (xs : List ℕ) × (numbers.new.items ≡ numbers.old.items ++ xs) × Block (kind_of wanted.entry) (width wanted.entry) count (left (standing reader.old)) xs (left (standing reader.new))) (λ a. (k : ℕ) × (f : AnyFault) × Broken wanted.entry count k (left (standing reader.old)) f × (a ≡ at_line f (first + k))) }
 {
     for i in 0..count {
-        match reader.read(wanted) {
-            Ok(line) => push_data(line, numbers)?,
-            Err(fault) => return Err(Stop::Refused(at_line(fault, first + u16::from(i)))),
-        }
+        let line = read_line(reader, wanted, first + u16::from(i))?;
+        push_data(line, numbers)?;
     }
     Ok(())
 }

@@ -1,26 +1,22 @@
 // Why a program stops before its end.
 ghost use Rattle.std.specs.Prelude.{◌≡◌, ◌≤◌};
 ghost use Rattle.field.specs.Refusals.{listing};
-ghost use Rattle.lines.specs.Faults.{fault_carries, fault_number};
-ghost use Rattle.programs.specs.Gathering.{Short, line_of};
-ghost use Rattle.slot.specs.Refusals.{listing as numbers};
+ghost use Rattle.lines.specs.Faults.{fault_carries};
+ghost use Rattle.programs.specs.Answers.{Answer, Refusing, at_line, no_line};
+ghost use Rattle.programs.specs.Answers.Answer.{Refuses};
+ghost use Rattle.programs.specs.Gathering.{Short, at_card};
 ghost use Rattle.programs.specs.declared.stop.Stop.TheVariants.{NoMemory};
+ghost use Rattle.slot.specs.Refusals.{listing as numbers};
 
+use crate::notice::Notice;
 use field::refusal::Refusal;
-use lines::{Fault, NO_LINE};
+use lines::Fault;
+use plan_check::plan::Refused as Unchecked;
 use slot::refusal::SlotRefusal;
 use std::alloc::{AllocError, AllocFailed as Unplaced};
 
-// A refusal as it is written: its number, what it carries, and the line at fault or NO_LINE.
-#[derive(Clone, Copy)]
-pub struct Notice {
-    pub number: u8,
-    pub carries: u16,
-    pub line: u16,
-}
-
 // A refusal, or want of memory.
-#[derive(Clone, Copy)]
+#[derive(Clone, Copy, PartialEq, Eq, Debug)]
 pub enum Stop {
     Refused(Notice),
     NoMemory,
@@ -42,68 +38,69 @@ impl<T: Drop> From<Unplaced<T>> for Stop {
     }
 }
 
-// The notice of a fault in a line.
-pub(crate) fn at_line(fault: Fault, line: u16) -> Notice
-    requires { fault_carries fault ≤ 4096 }
-    ensures { result ≡ record { number = fault_number fault; carries = fault_carries fault; line = line } }
-{
-    Notice {
-        number: fault.number(),
-        carries: fault.carries() as u16,
-        line,
+// No line is to blame for what a plan, a deal or an opening is refused for.
+impl From<Refusal> for Stop {
+    ghost from_gives = { λ r s. Refusing s (Refuses (listing r).0 (listing r).1 no_line) };
+
+    fn from(refusal: Refusal) -> Stop {
+        Stop::Refused(Notice {
+            refusal: SlotRefusal::Shared(refusal),
+            line: None,
+        })
     }
 }
 
-// The notice of a refusal that no line is to blame for.
-pub(crate) fn refused(refusal: Refusal) -> Notice
-    ensures { result ≡ record { number = (listing refusal).0; carries = (listing refusal).1; line = 0xFFFF } }
-{
-    Notice {
-        number: refusal.number(),
-        carries: refusal.carried(),
-        line: NO_LINE,
+// The plan that is refused is let go.
+impl<P: Drop> From<Unchecked<P>> for Stop {
+    ghost from_gives = { λ r s. Refusing s (Refuses (listing r.refusal).0 (listing r.refusal).1 no_line) };
+
+    fn from(refused: Unchecked<P>) -> Stop {
+        refused.refusal.into()
     }
 }
 
-// The notice of what a slot refuses, at a line or at NO_LINE.
-pub(crate) fn slot_refused(refusal: SlotRefusal, line: u16) -> Notice
-    requires { Short refusal }
-    ensures { result ≡ record { number = (numbers refusal).0; carries = (numbers refusal).1; line = line } }
-{
-    let carries = match refusal {
-        SlotRefusal::Line(fault) => fault.carries() as u16,
-        SlotRefusal::Shared(shared) => shared.carried(),
-        SlotRefusal::HeldAlready(value)
-        | SlotRefusal::NotHeld(value)
-        | SlotRefusal::TooFew(value) => u16::from(value),
-        SlotRefusal::OtherDeal | SlotRefusal::OtherPlan => 0,
-    };
-    Notice {
-        number: refusal.number(),
-        carries,
-        line,
+impl Stop {
+    // A fault in the line with that number.
+    pub(crate) fn at_line(fault: Fault, line: u16) -> Stop
+        requires { fault_carries fault ≤ 4096 }
+        ensures { Refusing result (at_line fault line) }
+    {
+        Stop::Refused(Notice {
+            refusal: SlotRefusal::Line(fault),
+            line: Some(line),
+        })
     }
-}
 
-// The notice of a card that a slot refuses, which is in the line with that number. No line is to blame for text after it.
-pub(crate) fn card_refused(refusal: SlotRefusal, line: u16) -> Notice
-    requires { Short refusal }
-    ensures { result ≡ record { number = (numbers refusal).0; carries = (numbers refusal).1; line = line_of refusal line } }
-{
-    if refusal.number() == Fault::Excess.number() {
-        slot_refused(refusal, NO_LINE)
-    } else {
-        slot_refused(refusal, line)
+    // A text that is too long, or that goes on after the last line wanted.
+    pub(crate) fn excess() -> Stop
+        ensures { Refusing result (Refuses 0x46 0 no_line) }
+    {
+        Stop::Refused(Notice {
+            refusal: SlotRefusal::Line(Fault::Excess),
+            line: None,
+        })
     }
-}
 
-// The notice of a text that is too long, or that goes on after the last line wanted.
-pub(crate) fn excess() -> Notice
-    ensures { result ≡ record { number = 0x46; carries = 0; line = 0xFFFF } }
-{
-    Notice {
-        number: Fault::Excess.number(),
-        carries: 0,
-        line: NO_LINE,
+    // What a slot refuses to open for.
+    pub(crate) fn shut(refusal: SlotRefusal) -> Stop
+        requires { Short refusal }
+        ensures { Refusing result (Refuses (numbers refusal).0 (numbers refusal).1 no_line) }
+    {
+        Stop::Refused(Notice {
+            refusal,
+            line: None,
+        })
+    }
+
+    // What a slot refuses a card for, which is in the line with that number. No line is to blame for text after it.
+    pub(crate) fn at_card(refusal: SlotRefusal, line: u16) -> Stop
+        requires { Short refusal }
+        ensures { Refusing result (at_card refusal line) }
+    {
+        let line = match refusal {
+            SlotRefusal::Line(Fault::Excess) => None,
+            _ => Some(line),
+        };
+        Stop::Refused(Notice { refusal, line })
     }
 }

@@ -1,5 +1,6 @@
 pub mod Casts
 pub mod Hiding
+pub mod Lanes
 pub mod LaneSystem
 pub mod LaidOut
 pub mod Nulls

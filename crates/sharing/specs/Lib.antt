@@ -1,4 +1,5 @@
 pub mod Groups
+pub mod Lent
 pub mod Scheme
 pub mod Secrecy
 pub mod Systems

@@ -2,6 +2,9 @@
 #![tactic(auto)]
 
 pub mod decision;
-mod matrices;
+pub mod groups;
+pub mod matrices;
+pub mod plan;
+pub mod sound;
 pub mod systems;
 pub mod worked;

@@ -1,16 +1,15 @@
 -- A card line's numbers, as the card that is made of it has them. Assumes nothing.
 use Rattle.std.proofs.Common.{◌≡◌, ℕ, ◌<◌, true, ◌&&◌, eqb, ltb, List, [], ◌∷◌, length, get_or, take, drop, sym, ap, ◌∙◌, arith, length-take}
 use Rattle.std.proofs.lemmas.List.{take_all}
-use Rattle.std.proofs.lemmas.Bool.{and_parts, and_from, ltb-true, eqb-true}
+use Rattle.std.proofs.lemmas.Bool.{and_parts, ltb-true, eqb-true}
 use Rattle.lines.proofs.Spelling.{length-spelled}
 use Rattle.lines.specs.Digits.{spelled, numeral}
-use Rattle.lines.specs.Lines.{Kept, content, parts, parts_of, padded, planned, sized}
+use Rattle.lines.specs.Lines.{Content, Kept, content, parts, parts_of, planned, sized}
 use Rattle.lines.specs.declared.kind.Kind.TheVariants as kind
 use Rattle.lines.specs.declared.line.Line.TheVariants as line
 use Rattle.lines.specs.declared.mark.DealMark.{DealMark}
 use Rattle.lines.specs.declared.part.Part.{Part}
 use Rattle.lines.specs.declared.wanted.Wanted.TheVariants as wanted
-use Rattle.slot.specs.Cards.{card_content, Limited}
 
 module _ (mark f t n j L : ℕ) (m d : Part) (x : DealMark) where
   dealt-parts : Kept (wanted.Card mark) (content (line.Card f m t n j L d))
@@ -21,16 +20,6 @@ module _ (mark f t n j L : ℕ) (m d : Part) (x : DealMark) where
       let e = and_parts (ltb j n) (sized L) b.1 in
       (eqb-true f mark a.0, b.0, ltb-true j n e.0, e.1)
 
-  pub limited : Kept (wanted.Card mark) (content (line.Card f m t n j L d))
-      → Limited (record { number = j; heading = record { mark = x; t = t; n = n; size = L }; «data» = d })
-  limited k =
-      let p = dealt-parts k in
-      record {
-        limits = and_from (planned t n) (sized L) p.1 p.3;
-        below = p.2;
-        long = eqb-true (length (spelled d.digits.now)) (padded t L) k.count;
-      }
-
   whole_mark : (l : List ℕ) → parts (line.Card f m t n j L d) ≡ parts_of kind.Card l → take 4 (spelled m.digits.now) ≡ spelled m.digits.now
   whole_mark l e =
       let is : m.digits.now ≡ take 8 (drop 6 l) = ap (λ ps. (get_or {A = ℕ × List ℕ} ps 0 (0, [])).1) e in
@@ -39,7 +28,7 @@ module _ (mark f t n j L : ℕ) (m d : Part) (x : DealMark) where
 
   pub same_content : (l : List ℕ) → Kept (wanted.Card mark) (content (line.Card f m t n j L d))
       → parts (line.Card f m t n j L d) ≡ parts_of kind.Card l → x.number ≡ numeral (take 4 (spelled m.digits.now))
-      → card_content mark (record { number = j; heading = record { mark = x; t = t; n = n; size = L }; «data» = d }) ≡ content (line.Card f m t n j L d)
+      → ◌≡◌ {A = Content} (record { kind = kind.Card; fields = mark ∷ x.number ∷ t ∷ n ∷ j ∷ L ∷ []; numbers = spelled d.digits.now }) (content (line.Card f m t n j L d))
   same_content l k e h =
       let a : mark ≡ f = sym (dealt-parts k).0 in
       let b : x.number ≡ numeral (spelled m.digits.now) = h ∙ ap numeral (whole_mark l e) in

@@ -5,7 +5,7 @@ use Rattle.lines.specs.Lines.{Content}
 use Rattle.lines.specs.declared.fault.Fault.{Fault}
 use Rattle.plan_check.specs.Faults.{first_no_code}
 use Rattle.field.specs.declared.refusal.Refusal.TheVariants.{DataCode}
-use Rattle.slot.specs.Cards.{Limited, card_content, numbers}
+use Rattle.slot.specs.Cards.{card_content, numbers}
 use Rattle.slot.specs.Holdings.{holding}
 use Rattle.slot.specs.Inserts.{card_read, card_table, differs, heading_of, held_at, inserted, insert_after, insert_memory, insert_refusal, number_of}
 use Rattle.slot.specs.Phases.{first_heading}
@@ -39,7 +39,7 @@ module _ (o : Operations) (s : State) (text : List ℕ) (k : Content) (read : Ok
       ∙ ap (λ (r : Result Content Fault). elim r [ Ok c ↦ cond (is_some (foremost (card_table o (holding s) c))) s (put s (heading_of c) (number_of c) c.numbers) | Err f ↦ s ]) read
 
 -- the card of which nothing is refused, in the slot
-module _ (o : Operations) (mark : ℕ) (s : State) (sound : Sound s) (card : Card) (fine : Limited card)
+module _ (o : Operations) (mark : ℕ) (s : State) (sound : Sound s) (card : Card)
     (none : foremost (card_table o (holding s) (card_content mark card)) ≡ None) where
   others : (differs (first_heading s.phase) card.heading ≡ false) × (is_some (held_at (holding s) card.number) ≡ false)
   others =
@@ -54,7 +54,7 @@ module _ (o : Operations) (mark : ℕ) (s : State) (sound : Sound s) (card : Car
   free = sym (held_flag s card.number sound.eight) ∙ others.1
 
   pub card_sound : Sound (put s card.heading card.number (numbers card))
-  card_sound = put_sound s sound card.heading card.number (numbers card) fine.limits fine.below fine.long others.0 free
+  card_sound = put_sound s sound card.heading card.number (numbers card) card.limits card.below card.long others.0 free
 
   pub card_holding : holding (put s card.heading card.number (numbers card)) ≡ inserted (holding s) (card_content mark card)
-  card_holding = put_holding s sound card.heading card.number (numbers card) fine.limits fine.below fine.long others.0 free
+  card_holding = put_holding s sound card.heading card.number (numbers card) card.limits card.below card.long others.0 free

@@ -12,5 +12,7 @@ pub mod Putting
 pub mod Reading
 pub mod Returning
 pub mod Taking
+pub mod Laying
+pub mod Turning
 pub mod Unlocking
 pub mod Windows

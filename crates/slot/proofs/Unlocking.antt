@@ -218,15 +218,15 @@ module _ (o : Operations) (p : Plan) (s : Holding) (fair : Fair s) where
 
     -- Open is handed the lowest cards as they were laid out
     pub unlocked_open : (t len L : ℕ) (ns ds : List ℕ) (workspace : ℕ) (inner : Result (Unit {0}) Refusal) → Fitting o p s → t ≡ p.t
-        → len ≡ card_length s.first → L ≡ size_held s → take (length (lowest t s.cards)) ns ≡ lowest t s.cards
+        → len ≡ card_length s.first → L ≡ size_held s → ns ≡ lowest t s.cards
         → take (length (lowest t s.cards) * card_length s.first) ds ≡ data_held s.cards (lowest t s.cards)
-        → Answered o p (take (t - 0) ns) (take (t * len - 0) ds) L before after workspace inner → Unlocked o p s before after workspace (raised inner)
+        → Answered o p ns (take (t * len - 0) ds) L before after workspace inner → Unlocked o p s before after workspace (raised inner)
     unlocked_open t len L ns ds workspace inner fits et el es front laid answered =
         let many = length-lowest t s.cards (omega (arith, fits.enough)) in
-        let cards : take (t - 0) ns ≡ numbers = ap (λ n. take n ns) (omega arith) ∙ front ∙ ap (λ n. lowest n s.cards) et in
+        let cards : ns ≡ numbers = front ∙ ap (λ n. lowest n s.cards) et in
         let held : take (t * len - 0) ds ≡ copied =
         ap (λ n. take n ds) (omega (arith, ap₂ (λ m n. m * n) many (sym el))) ∙ laid ∙ ap (λ n. data_held s.cards (lowest n s.cards)) et in
         unlocked_answer workspace inner fits
         (subst (λ xs. Answered o p xs copied (size_held s) before after workspace inner) cards
-        (subst (λ xs. Answered o p (take (t - 0) ns) xs (size_held s) before after workspace inner) held
-        (subst (λ n. Answered o p (take (t - 0) ns) (take (t * len - 0) ds) n before after workspace inner) es answered)))
+        (subst (λ xs. Answered o p ns xs (size_held s) before after workspace inner) held
+        (subst (λ n. Answered o p ns (take (t * len - 0) ds) n before after workspace inner) es answered)))

@@ -1,13 +1,11 @@
 -- A card as the code holds it while it is put in. Assumes nothing.
 --   card_content   the numbers of the line that it was read from
 --   card_told      what came of a text, with a card by its numbers
---   Limited        t, n and L are within their limits, the number is below n, and the data have t × b numbers
-use Rattle.std.specs.Prelude.{◌≡◌, ℕ, ◌<◌, true, List, [], ◌∷◌, length, Some, Ok, Err, Result}
+use Rattle.std.specs.Prelude.{ℕ, List, [], ◌∷◌, Ok, Err, Result}
 use Rattle.lines.specs.Digits.{spelled}
 use Rattle.lines.specs.Lines.{Content}
 use Rattle.lines.specs.declared.fault.Fault.{Fault}
 use Rattle.lines.specs.declared.kind.Kind.TheVariants as kind
-use Rattle.slot.specs.Holdings.{card_length, within_limits}
 use Rattle.slot.specs.declared.card.Card.{Card}
 
 abbrev pub numbers : Card → List ℕ
@@ -23,8 +21,3 @@ card_content mark c = record {
 abbrev pub card_told : (mark : ℕ) → Result Card Fault → Result Content Fault
 card_told mark (Ok c) = Ok (card_content mark c)
 card_told mark (Err f) = Err f
-
-pub record Limited (c : Card) : Type 0 where
-  pub limits : within_limits (Some c.heading) ≡ true
-  pub below : c.number < c.heading.n
-  pub long : length (numbers c) ≡ card_length (Some c.heading)

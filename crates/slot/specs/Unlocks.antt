@@ -61,8 +61,8 @@ plan_table o p s =
     ∷ (0x54, nat_lt (count s.cards) p.t, count s.cards)
     ∷ []
 
--- what Open calls 30 to 34 cannot be wrong with cards that a slot holds. 35 never holds of a slot that was filled by its calls
--- either: each of them leaves codes where codes were (Coded, below, in their clauses `codes`)
+-- what Open calls 30 to 34 cannot be wrong with cards that a slot holds. 35 never holds of a slot
+-- either: its type says that every number held is a code (Coded, below)
 abbrev pub unlock_table : Operations → Plan → Holding → (place workspace : ℕ) → List Rule
 unlock_table o p s place workspace =
     plan_table o p s

@@ -5,9 +5,8 @@ ghost use Rattle.slot.specs.Inserts.{held_at, insert_after, insert_memory, inser
 ghost use Rattle.slot.specs.Phases.{phase_of};
 ghost use Rattle.slot.specs.Refusals.{foremost, refused};
 ghost use Rattle.slot.specs.States.{emptied, taken};
-ghost use Rattle.slot.specs.Unlocks.{Coded};
 
-use crate::card::read_card;
+use crate::card::Card;
 use crate::memory::{MEMORY, MOST_CARDS, State};
 use crate::phase::{Heading, Phase};
 use crate::refusal::SlotRefusal;
@@ -20,7 +19,6 @@ impl<F: Field> Slot<F> {
     pub fn new() -> Slot<F>
         ensures holds { holding result.state ≡ nothing }
         ensures memory { result.state ≡ emptied }
-        ensures codes { Coded F.Field.ops (holding result.state) }
     {
         let state = State {
             phase: Phase::Empty,
@@ -37,19 +35,14 @@ impl<F: Field> Slot<F> {
     pub fn phase(&self) -> Phase
         ensures { result ≡ phase_of (holding self.now.state).first (count (holding self.now.state).cards) }
     {
-        let phase = self.state.phase;
-        phase
+        self.state.phase
     }
 
     // What stands on every card held; nothing while no card is held.
     pub fn heading(&self) -> Option<Heading>
         ensures { result ≡ (holding self.now.state).first }
     {
-        let held = self.state.phase;
-        match held {
-            Phase::Empty => None,
-            Phase::Gathering(heading) | Phase::Ready(heading) => Some(heading),
-        }
+        self.state.phase.heading()
     }
 
     // Puts in the card that a text is: one card line over this field, and nothing else.
@@ -57,12 +50,9 @@ impl<F: Field> Slot<F> {
         ensures refusal { refused result ≡ insert_refusal F.Field.ops (holding self.old.state) text.now }
         ensures holds { holding self.new.state ≡ insert_after F.Field.ops (holding self.old.state) text.now }
         ensures memory { self.new.state ≡ insert_memory F.Field.ops self.old.state text.now }
-        ensures codes { Coded F.Field.ops (holding self.old.state) → Coded F.Field.ops (holding self.new.state) }
     {
-        let card = read_card(text, F::mark())?;
-        if let Some(refusal) = self.state.refusal::<F>(card) {
-            return Err(refusal);
-        }
+        let card = Card::read(text, F::mark())?;
+        self.state.check_card::<F>(card)?;
         self.state.put(card);
         Ok(())
     }
@@ -72,7 +62,6 @@ impl<F: Field> Slot<F> {
         ensures refusal { refused result ≡ foremost (pull_table (holding self.old.state) number) }
         ensures holds { holding self.new.state ≡ (if is_some (held_at (holding self.old.state) number) then pulled (holding self.old.state) number else holding self.old.state) }
         ensures memory { self.new.state ≡ (if is_some (held_at (holding self.old.state) number) then taken self.old.state number else self.old.state) }
-        ensures codes { Coded F.Field.ops (holding self.old.state) → Coded F.Field.ops (holding self.new.state) }
     {
         if !self.state.holds(number) {
             return Err(SlotRefusal::NotHeld(number));
@@ -85,7 +74,6 @@ impl<F: Field> Slot<F> {
     pub fn clear(&mut self)
         ensures holds { holding self.new.state ≡ nothing }
         ensures memory { self.new.state ≡ emptied }
-        ensures codes { Coded F.Field.ops (holding self.new.state) }
     {
         self.state.empty();
     }

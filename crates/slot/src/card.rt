@@ -1,20 +1,24 @@
 // A card as its line of text says it.
-ghost use Rattle.std.specs.Prelude.{◌≡◌, IfOk};
+ghost use Rattle.std.specs.Prelude.{◌≡◌, ◌<◌, true, length, Some, IfOk};
+ghost use Rattle.lines.specs.Digits.{spelled};
 ghost use Rattle.lines.specs.Lines.{Kept, content, head, parts, parts_of, told};
 ghost use Rattle.lines.specs.declared.kind.Kind.TheVariants.{Card as CardKind};
 ghost use Rattle.lines.specs.declared.wanted.Wanted.TheVariants.{Card as WantedCard};
-ghost use Rattle.slot.specs.Cards.{Limited, card_told};
+ghost use Rattle.slot.specs.Holdings.{card_length, within_limits};
 ghost use Rattle.slot.specs.Inserts.{card_read};
 
 use crate::phase::Heading;
 use lines::{DealMark, Fault, Line, Part, Reader, Wanted};
 
-// The number of a card, its heading, and its data as digits of the text.
+// The number of a card, its heading, and its data as digits of the text, all within their limits.
 #[derive(Clone, Copy)]
 pub struct Card<'a> {
     pub(crate) number: u8,
     pub(crate) heading: Heading,
     pub(crate) data: Part<'a>,
+    ghost limits: { within_limits (Some heading) ≡ true },
+    ghost below: { number < heading.n },
+    ghost long: { length (spelled «data».digits.now) ≡ card_length (Some heading) },
 }
 
 // Reads a text that is one card line over the field with that mark, and nothing else.
@@ -29,34 +33,36 @@ fn read_line<'a>(text: &'a [u8], mark: u8) -> Result<Line<'a>, Fault>
     Ok(line)
 }
 
-// The card of such a text.
-pub(crate) fn read_card<'a>(text: &'a [u8], mark: u8) -> Result<Card<'a>, Fault>
-    ensures told { card_told mark result ≡ card_read mark text.now }
-    ensures limited { IfOk result (λ c. Limited c) }
-{
-    let line = read_line(text, mark)?;
-    match line {
-        Line::Card {
-            field: _,
+impl<'a> Card<'a> {
+    ghost use Rattle.slot.specs.Cards.{card_told};
+
+    // The card of such a text.
+    pub(crate) fn read(text: &'a [u8], mark: u8) -> Result<Card<'a>, Fault>
+        ensures { card_told mark result ≡ card_read mark text.now }
+    {
+        let line = read_line(text, mark)?;
+        let Line::Card {
             mark: deal,
             t,
             n,
-            card,
+            card: number,
             size,
             data,
-        } => {
-            let heading = Heading {
-                mark: DealMark::of(deal),
-                t,
-                n,
-                size,
-            };
-            Ok(Card {
-                number: card,
-                heading,
-                data,
-            })
-        }
-        _ => unreachable(),
+            ..
+        } = line
+        else {
+            unreachable()
+        };
+        let heading = Heading {
+            mark: DealMark::of(deal),
+            t,
+            n,
+            size,
+        };
+        Ok(Card {
+            number,
+            heading,
+            data,
+        })
     }
 }

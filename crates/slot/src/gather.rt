@@ -5,8 +5,9 @@ ghost use Rattle.slot.specs.Phases.{first_heading};
 ghost use Rattle.slot.specs.States.{laid};
 ghost use Rattle.slot.specs.Unlocks.{data_held, lowest, size_held};
 
-use crate::memory::State;
-use crate::phase::Phase;
+use crate::memory::{MOST_CARDS, State, WIDTH};
+use arrayvec::ArrayVec;
+use sharing::plan::lanes;
 
 // Copies the numbers of a card to a place in the data.
 fn copy(data: &mut [u8], at: usize, card: &[u8])
@@ -21,11 +22,7 @@ impl State {
     pub(crate) fn size(&self) -> u8
         ensures { result ≡ size_held (holding self.now) }
     {
-        let phase = self.phase;
-        match phase {
-            Phase::Empty => 0,
-            Phase::Gathering(first) | Phase::Ready(first) => first.size,
-        }
+        self.phase.heading().map_or(0, |first| first.size)
     }
 
     // How many numbers each card held has, 0 in an empty slot.
@@ -33,34 +30,27 @@ impl State {
         requires { within_limits (first_heading self.now.phase) ≡ true }
         ensures { result ≡ card_length (first_heading self.now.phase) }
     {
-        let phase = self.phase;
-        match phase {
-            Phase::Empty => 0,
-            Phase::Gathering(first) | Phase::Ready(first) => {
-                let t = first.t as usize;
-                t * ((first.size as usize + (t - 1)) / t)
-            }
-        }
+        self.phase.heading().map_or(0, |first| usize::from(first.t) * lanes(first.t, first.size))
     }
 
-    // Lays out the t lowest cards held: their numbers, and their data one after the other.
-    pub(crate) fn gather(&self, t: usize, numbers: &mut [u8], data: &mut [u8])
-        requires eight { length self.now.held ≡ 8 }
-        requires long { length self.now.memory ≡ 560 }
+    // Lays out the data of the t lowest cards held, one after the other, and hands out the numbers of those cards.
+    pub(crate) fn gather(&self, t: usize, data: &mut [u8]) -> ArrayVec<u8, MOST_CARDS>
         requires limits { within_limits (first_heading self.now.phase) ≡ true }
-        requires most { length numbers.old ≡ 8 }
         requires room { length «data».old ≡ 560 }
-        ensures counted { take (length (lowest t (holding self.now).cards)) numbers.new ≡ lowest t (holding self.now).cards }
+        ensures numbers { result.items ≡ lowest t (holding self.now).cards }
         ensures copied { take (length (lowest t (holding self.now).cards) * card_length (first_heading self.now.phase)) «data».new ≡ data_held (holding self.now).cards (lowest t (holding self.now).cards) }
     {
         let length = self.card_length();
-        let mut found = 0;
-        for k in 0..8usize {
-            if self.held[k] && found < t {
-                numbers[found] = k as u8;
-                copy(data, found * length, &self.memory[70 * k..70 * k + length]);
-                found += 1;
-            }
+        let mut numbers = ArrayVec::<u8, MOST_CARDS>::new();
+        for card in (0..8u8).filter(|card| self.holds(*card)).take(t) {
+            let from = WIDTH * usize::from(card);
+            copy(
+                data,
+                numbers.len() * length,
+                &self.memory[from..from + length],
+            );
+            numbers.push(card);
         }
+        numbers
     }
 }

@@ -1,11 +1,11 @@
 // How far the slot has come, and how an event moves it on.
 ghost use Rattle.std.specs.Prelude.{◌≡◌, Some};
-ghost use Rattle.slot.specs.Phases.{phase_of, heading_after};
+ghost use Rattle.slot.specs.Phases.{first_heading, phase_of, heading_after};
 
 use lines::DealMark;
 
 // What stands on every card of a deal: the deal's mark, t and n of its plan, and L, the length of its key.
-#[derive(Clone, Copy)]
+#[derive(Clone, Copy, PartialEq, Eq, Debug)]
 pub struct Heading {
     pub mark: DealMark,
     pub t: u8,
@@ -14,7 +14,7 @@ pub struct Heading {
 }
 
 // The phase of a slot, with the heading of its first card.
-#[derive(Clone, Copy)]
+#[derive(Clone, Copy, PartialEq, Eq, Debug)]
 pub enum Phase {
     // it holds no card
     Empty,
@@ -25,7 +25,7 @@ pub enum Phase {
 }
 
 // What moves a slot.
-#[derive(Clone, Copy)]
+#[derive(Clone, Copy, PartialEq, Eq, Debug)]
 pub enum Event {
     // a card with that heading is put in
     Insert(Heading),
@@ -49,20 +49,26 @@ fn phase_at(heading: Heading, held: u8) -> Phase
 }
 
 impl Phase {
+    // The heading of the first card; none in an empty slot.
+    pub(crate) fn heading(self) -> Option<Heading>
+        ensures { result ≡ first_heading self }
+    {
+        match self {
+            Phase::Empty => None,
+            Phase::Gathering(heading) | Phase::Ready(heading) => Some(heading),
+        }
+    }
+
     // Moves on at an event after which so many cards are held.
     pub(crate) fn step(&mut self, event: Event, held: u8)
         ensures { self.new ≡ phase_of (heading_after self.old event) held }
     {
         *self = match (*self, event) {
-            (Phase::Empty, Event::Insert(heading)) => phase_at(heading, held),
-            (Phase::Gathering(heading) | Phase::Ready(heading), Event::Insert(_)) => phase_at(
-                heading, held,
-            ),
-            (Phase::Gathering(heading) | Phase::Ready(heading), Event::Pull) => phase_at(
-                heading, held,
-            ),
-            (Phase::Empty, Event::Pull) => Phase::Empty,
-            (_, Event::Clear) => Phase::Empty,
+            (Phase::Empty, Event::Insert(first))
+            | (Phase::Gathering(first) | Phase::Ready(first), Event::Insert(_) | Event::Pull) => {
+                phase_at(first, held)
+            }
+            (Phase::Empty, Event::Pull) | (_, Event::Clear) => Phase::Empty,
         };
     }
 }

@@ -8,13 +8,13 @@ use field::refusal::Refusal;
 use lines::Fault;
 
 // Where a refusal comes from: the line of text, or the slot itself.
-#[derive(Clone, Copy)]
+#[derive(Clone, Copy, PartialEq, Eq, Debug)]
 pub enum Layer {
     Line,
     Slot,
 }
 
-#[derive(Clone, Copy)]
+#[derive(Clone, Copy, PartialEq, Eq, Debug)]
 pub enum SlotRefusal {
     // a fault of the text or of its line, as the reader said it
     Line(Fault),
@@ -54,11 +54,11 @@ impl SlotRefusal {
     {
         match self {
             SlotRefusal::Line(fault) => fault.carries(),
-            SlotRefusal::Shared(refusal) => refusal.carried() as usize,
-            SlotRefusal::HeldAlready(value) | SlotRefusal::NotHeld(value) => value as usize,
-            SlotRefusal::TooFew(value) => value as usize,
-            SlotRefusal::OtherDeal => 0,
-            SlotRefusal::OtherPlan => 0,
+            SlotRefusal::Shared(refusal) => usize::from(refusal.carried()),
+            SlotRefusal::HeldAlready(value)
+            | SlotRefusal::NotHeld(value)
+            | SlotRefusal::TooFew(value) => usize::from(value),
+            SlotRefusal::OtherDeal | SlotRefusal::OtherPlan => 0,
         }
     }
 

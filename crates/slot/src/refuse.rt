@@ -1,16 +1,16 @@
 // What the slot refuses of a card that was read.
-ghost use Rattle.std.specs.Prelude.{◌≡◌, ◌<◌, ◌≤◌, length, is_some, IfSome};
+ghost use Rattle.std.specs.Prelude.{◌≡◌, ◌<◌, false, length, slice_index_or, IfSome};
 ghost use Rattle.plan_check.specs.Faults.{first_no_code};
 ghost use Rattle.lines.specs.Digits.{spelled};
-ghost use Rattle.slot.specs.Cards.{card_content, numbers};
+ghost use Rattle.slot.specs.Cards.{card_content};
 ghost use Rattle.slot.specs.Holdings.{holding};
-ghost use Rattle.slot.specs.Inserts.{card_table, differs, held_at, same_heading};
+ghost use Rattle.slot.specs.Inserts.{card_table, differs};
 ghost use Rattle.slot.specs.Phases.{first_heading};
-ghost use Rattle.slot.specs.Refusals.{foremost};
+ghost use Rattle.slot.specs.Refusals.{foremost, refused};
 
 use crate::card::Card;
 use crate::memory::State;
-use crate::phase::{Heading, Phase};
+use crate::phase::Heading;
 use crate::refusal::SlotRefusal;
 use field::Field;
 use field::refusal::Refusal;
@@ -21,21 +21,8 @@ fn first_no_code_in<F: Field>(data: Part<'_>) -> Option<usize>
     ensures value { result ≡ first_no_code F.Field.ops (spelled «data».entry.digits.now) }
     ensures bound { IfSome result (λ i. i < length (spelled «data».entry.digits.now)) }
 {
-    let total = data.count();
-    for i in 0..total {
-        let number = data.number(i);
-        if number as u16 >= F::size() {
-            return Some(i);
-        }
-    }
-    None
-}
-
-// Whether two cards have the same heading.
-fn is_same(a: Heading, b: Heading) -> bool
-    ensures { result ≡ same_heading a b }
-{
-    a.mark.number == b.mark.number && a.t == b.t && a.n == b.n && a.size == b.size
+    let size = F::size();
+    data.numbers().position(|number| u16::from(number) >= size)
 }
 
 impl State {
@@ -43,41 +30,31 @@ impl State {
     fn is_other(&self, heading: Heading) -> bool
         ensures { result ≡ differs (first_heading self.now.phase) heading }
     {
-        let phase = self.phase;
-        match phase {
-            Phase::Empty => false,
-            Phase::Gathering(first) | Phase::Ready(first) => !is_same(first, heading),
-        }
+        self.phase.heading().is_some_and(|first| first != heading)
     }
 
     // Whether a card is held.
     pub(crate) fn holds(&self, number: u8) -> bool
-        requires { length self.now.held ≡ 8 }
-        ensures { result ≡ is_some (held_at (holding self.now) number) }
+        ensures { result ≡ slice_index_or self.now.held number false }
     {
-        if number >= 8 {
-            return false;
-        }
-        self.held[number as usize]
+        self.held.get(usize::from(number)).copied().unwrap_or(false)
     }
 
     // What is refused of a card: a number that is no code, another heading, a card that is held already.
-    pub(crate) fn refusal<F: Field>(&self, card: Card<'_>) -> Option<SlotRefusal>
-        requires eight { length self.now.held ≡ 8 }
-        requires below { card.number < 8 }
-        requires fits { length (numbers card) ≤ 70 }
-        ensures { result ≡ foremost (card_table F.Field.ops (holding self.now) (card_content F.Field.ops.mark card.entry)) }
+    #[tactic(auto, using(crate::proofs::Putting::held_flag))]
+    pub(crate) fn check_card<F: Field>(&self, card: Card<'_>) -> Result<(), SlotRefusal>
+        ensures { refused result ≡ foremost (card_table F.Field.ops (holding self.now) (card_content F.Field.ops.mark card.entry)) }
     {
         if let Some(index) = first_no_code_in::<F>(card.data) {
-            let place = 256 * card.number as u16 + index as u16;
-            return Some(SlotRefusal::Shared(Refusal::DataCode(place)));
+            let place = 256 * u16::from(card.number) + index as u16;
+            return Err(Refusal::DataCode(place).into());
         }
         if self.is_other(card.heading) {
-            return Some(SlotRefusal::OtherDeal);
+            return Err(SlotRefusal::OtherDeal);
         }
         if self.holds(card.number) {
-            return Some(SlotRefusal::HeldAlready(card.number));
+            return Err(SlotRefusal::HeldAlready(card.number));
         }
-        None
+        Ok(())
     }
 }

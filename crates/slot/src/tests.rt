@@ -9,17 +9,11 @@ use plan_check::plan::Drafted;
 
 // The number of an answer, 0 where nothing is refused.
 fn number(answer: Result<(), SlotRefusal>) -> u8 {
-    match answer {
-        Ok(()) => 0,
-        Err(refusal) => refusal.number(),
-    }
+    answer.err().map_or(0, SlotRefusal::number)
 }
 
 fn is_ready(slot: &Slot<Gf256>) -> bool {
-    match slot.phase() {
-        Phase::Ready(_) => true,
-        _ => false,
-    }
+    matches!(slot.phase(), Phase::Ready(_))
 }
 
 #[test]
@@ -79,16 +73,13 @@ fn unlocked<F: Field>(
     key: &mut [u8],
     workspace: &mut [u8],
 ) -> (u8, usize) {
-    match Drafted::new(2, n, rows).admit::<Gf256>(workspace) {
-        Err(_) => (0xFF, 0),
-        Ok(plan) => {
-            workspace.fill(7);
-            match slot.unlock(&plan, key, workspace) {
-                Ok(()) => (0, 0),
-                Err(refusal) => (refusal.number(), refusal.carried()),
-            }
-        }
-    }
+    let Ok(plan) = Drafted::new(2, n, rows).admit::<Gf256>(workspace) else {
+        return (0xFF, 0);
+    };
+    workspace.fill(7);
+    slot.unlock(&plan, key, workspace)
+        .err()
+        .map_or((0, 0), |refusal| (refusal.number(), refusal.carried()))
 }
 
 #[test]

@@ -1,22 +1,21 @@
 // The call of a slot that opens the key, and leaves the slot as it is.
-ghost use Rattle.std.specs.Prelude.{◌≡◌, ℕ, List, length, None};
+ghost use Rattle.std.specs.Prelude.{◌≡◌, length, None};
 ghost use Rattle.field.specs.Refusals.{foremost};
-ghost use Rattle.sharing.specs.Scheme.{plan_of};
+ghost use Rattle.sharing.specs.Lent.{lent_plan};
 ghost use Rattle.plan_check.specs.Checks.{cleared};
 ghost use Rattle.slot.specs.Holdings.{holding};
 ghost use Rattle.slot.specs.Phases.{first_heading};
-ghost use Rattle.slot.specs.Unlocks.{Coded, GivesKey, OnlyUnlocked, Unlocked, listed, no_code_held, other_plan, plan_table};
+ghost use Rattle.slot.specs.Unlocks.{GivesKey, OnlyUnlocked, Unlocked, no_code_held, other_plan, plan_table, told};
 
-use crate::memory::{MEMORY, MOST_CARDS, State};
-use crate::phase::Phase;
+use crate::memory::{MEMORY, State};
 use crate::refusal::SlotRefusal;
 use crate::slot::Slot;
-use crate::state::count;
 use field::Field;
 use opening::open;
-use plan_check::fault::plan_fault;
+use plan_check::fault::faultless;
 use plan_check::guard::Guard;
 use plan_check::plan::Checked;
+use sharing::plan::LentPlan;
 
 // How many bytes a workspace has to have.
 const ROOM: usize = 4096;
@@ -32,32 +31,28 @@ fn leave(workspace: &mut [u8])
 
 impl State {
     // Whether t or n of a plan are others than those of the cards held.
-    fn is_other_plan(&self, t: u8, n: u8) -> bool
-        ensures { (rows : List ℕ) → result ≡ other_plan (first_heading self.now.phase) (plan_of t n rows) }
+    fn is_other_plan(&self, plan: &LentPlan<'_>) -> bool
+        ensures { result ≡ other_plan (first_heading self.now.phase) (lent_plan plan.now) }
     {
-        let phase = self.phase;
-        match phase {
-            Phase::Empty => false,
-            Phase::Gathering(first) | Phase::Ready(first) => first.t != t || first.n != n,
-        }
+        let LentPlan { t, n, .. } = *plan;
+        self.phase
+            .heading()
+            .is_some_and(|first| first.t != t || first.n != n)
     }
 
     // What stands against a plan: its faults, other cards than the plan's, fewer than t cards.
-    fn plan_refusal<F: Field>(&self, t: u8, n: u8, rows: &[u8]) -> Option<SlotRefusal>
-        requires { length self.now.held ≡ 8 }
-        ensures { listed result ≡ foremost (plan_table F.Field.ops (plan_of t n rows.now) (holding self.now)) }
+    fn check_plan<F: Field>(&self, plan: &LentPlan<'_>) -> Result<(), SlotRefusal>
+        ensures { told result ≡ foremost (plan_table F.Field.ops (lent_plan plan.now) (holding self.now)) }
     {
-        if let Some(refusal) = plan_fault::<F>(t, n, rows) {
-            return Some(SlotRefusal::Shared(refusal));
+        faultless::<F>(plan)?;
+        if self.is_other_plan(plan) {
+            return Err(SlotRefusal::OtherPlan);
         }
-        if self.is_other_plan(t, n) {
-            return Some(SlotRefusal::OtherPlan);
+        let held = self.count();
+        if held < plan.t {
+            return Err(SlotRefusal::TooFew(held));
         }
-        let held = count(&self.held);
-        if held < t {
-            return Some(SlotRefusal::TooFew(held));
-        }
-        None
+        Ok(())
     }
 }
 
@@ -74,13 +69,13 @@ impl<F: Field> Slot<F> {
         ensures answer { Unlocked F.Field.ops (P.Checked.plan plan.now) (holding self.now.state) key.old key.new (length workspace.old) result }
         ensures zeros { workspace.new ≡ cleared workspace.old }
     {
-        let t = plan.threshold() as usize;
+        let t = usize::from(plan.threshold());
         let length = t * self.state.card_length();
-        let mut numbers = [0u8; MOST_CARDS];
+        // Stays: the slot has no heap, so the copy lies in an array of the most numbers that all cards have
         let mut memory = [0u8; MEMORY];
         let guard = Guard { bytes: &mut memory };
-        self.state.gather(t, &mut numbers, guard.bytes);
-        let cards = &numbers[0..t];
+        let numbers = self.state.gather(t, guard.bytes);
+        let cards = numbers.as_slice();
         let data = &guard.bytes[0..length];
         open::<F, P>(plan, cards, data, self.state.size(), key, workspace)?;
         Ok(())
@@ -99,11 +94,10 @@ impl<F: Field> Slot<F> {
         ensures only { OnlyUnlocked F.Field.ops (P.Checked.plan plan.now) (holding self.now.state) key.old key.new (length workspace.old) result }
         ensures deals { GivesKey F.Field.ops (P.Checked.plan plan.now) (holding self.now.state) key.old key.new (length workspace.old) result }
         ensures zeros { workspace.new ≡ cleared workspace.old }
-        ensures codes { Coded F.Field.ops (holding self.now.state) → no_code_held F.Field.ops (P.Checked.plan plan.now).t (holding self.now.state).cards ≡ None }
+        ensures codes { no_code_held F.Field.ops (P.Checked.plan plan.now).t (holding self.now.state).cards ≡ None }
     {
-        let t = plan.threshold();
-        let n = plan.cards();
-        if let Some(refusal) = self.state.plan_refusal::<F>(t, n, plan.rows()) {
+        // Stays: under `inspect_err` the proof loses the workspace, which the closure borrows, where nothing is refused
+        if let Err(refusal) = self.state.check_plan::<F>(&plan.lent()) {
             leave(workspace);
             return Err(refusal);
         }

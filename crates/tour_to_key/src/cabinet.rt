@@ -1,9 +1,10 @@
 // The cabinet: the written cards go into its slot as the lines that were printed, and three of them open the key.
-use crate::{ROOM, said};
 use field::Field;
 use plan_check::plan::Vetted;
 use slot::phase::Phase;
+use slot::refusal::SlotRefusal;
 use slot::slot::Slot;
+use touring::{ROOM, Said};
 
 // Puts cards 4, 1 and 3 in, with what goes wrong on the way; then opens the key and clears the slot.
 pub fn opened<F: Field>(rt: &HostRuntime, plan: &Vetted, cards: &[String]) -> anyhow::Result<()> {
@@ -27,10 +28,7 @@ pub fn opened<F: Field>(rt: &HostRuntime, plan: &Vetted, cards: &[String]) -> an
 
 // The line of card j, or no text, which the slot refuses.
 fn line(cards: &[String], j: usize) -> &str {
-    match cards.get(j) {
-        Some(card) => card.as_str(),
-        None => "",
-    }
+    cards.get(j).map_or("", |card| card.as_str())
 }
 
 // Puts a card in, and says whether the slot takes it.
@@ -40,8 +38,18 @@ fn put_in<F: Field>(rt: &HostRuntime, slot: &mut Slot<F>, card: &str) -> anyhow:
             print!(rt; "Taken. ")?;
             stands(rt, slot)
         }
-        Err(refusal) => said(rt, refusal.number(), refusal.carried()),
+        Err(refusal) => told(rt, refusal),
     }
+}
+
+// Says what the slot refuses.
+fn told(rt: &HostRuntime, refusal: SlotRefusal) -> anyhow::Result<()> {
+    let said = Said {
+        number: refusal.number(),
+        carried: refusal.carried(),
+    };
+    println!(rt; "{said}")?;
+    Ok(())
 }
 
 // Puts a card in that has another deal's mark in place of its own.
@@ -71,7 +79,7 @@ fn unlocked<F: Field>(rt: &HostRuntime, slot: &Slot<F>, plan: &Vetted) -> anyhow
     let mut key = [0u8; 4];
     let mut workspace = [0u8; ROOM];
     if let Err(refusal) = slot.unlock::<Vetted<'_>>(plan, &mut key, &mut workspace) {
-        return said(rt, refusal.number(), refusal.carried());
+        return told(rt, refusal);
     }
     let [a, b, c, d] = key;
     println!(rt; "Unlocked: the key is {a:02X} {b:02X} {c:02X} {d:02X}.")?;

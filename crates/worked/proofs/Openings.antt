@@ -63,7 +63,7 @@ module _ {o : Operations} (laws : Laws o) (p : Plan) (cards numbers : List ℕ) 
   b = lanes p.t L
 
   fits : Faultless o p cards numbers L (length before) room
-  fits = faultless o p cards numbers L (length before) room (passed_both (inputs_table o p cards numbers L (length before)) ((0x37, ltb room room, 0) ∷ []) clear).0
+  fits = faultless o p cards numbers L (length before) room (sym (passed_both (inputs_table o p cards numbers L (length before)) ((0x37, ltb room room, 0) ∷ []) clear).0)
 
   group : Group p.n p.t cards
   group = run_group p.n p.t cards fits.numbers.count run

@@ -1,4 +1,4 @@
--- The numbers so far are the card's, and the buffer keeps its length.
+-- The numbers so far are the card's.
 use Rattle.std.proofs.Common.{◌≡◌, ℕ, ◌+◌, ◌/◌, ◌%◌, ◌<◌, get_or}
 use Rattle.linear.specs.Casting.{cast}
 use Rattle.sharing.specs.Scheme.{word}
@@ -8,4 +8,4 @@ abbrev pub invariant-loop-x : goal.invariant-loop-x
 invariant-loop-x g l =
     (k : ℕ) → k < l.x
     → get_or l.place k 0
-    ≡ cast g.F.Field.ops l.t l.rows (word g.F.Field.ops l.t l.b l.store (k / l.b) (k % l.b)) ((l.j + k / l.b) % l.n)
+    ≡ cast g.F.Field.ops l.store.t l.plan.rows.now (word g.F.Field.ops l.store.t l.store.lanes l.store.numbers.now (k / l.store.lanes) (k % l.store.lanes)) ((l.j + k / l.store.lanes) % l.plan.n)

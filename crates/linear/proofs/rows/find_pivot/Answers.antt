@@ -1,23 +1,22 @@
--- Each turn of the loop looks at one row.
-use Rattle.std.proofs.Common.{refl, ap, ◌∙◌, ⊎_elim, arith}
-use Rattle.std.proofs.lemmas.Bool.{cases_eq}
+-- The search gives the first row whose number is not 0, or none has one.
+use Rattle.std.proofs.Common.{◌≡◌, ◌≢◌, ℕ, refl, rules, tests}
+use Rattle.std.proofs.lemmas.Iterator.{first_from_Range}
 use Rattle.linear.specs.Pivots.{entry}
-use Rattle.linear.proofs.Entries.{row_within}
 use Rattle.linear.proofs.rows.find_pivot.Goals as goal
 
-pub loop-row-init : goal.loop-row-init
-loop-row-init c r from below = absurd (omega arith)
-
-pub bounds-m-place : goal.bounds-m-place
-bounds-m-place c = omega (arith, row_within c.args.width c.args.rows c.loop-row.row c.loop-row-test.true)
-
-pub returns-then-m-place-ne0 : goal.returns-then-m-place-ne0
-returns-then-m-place-ne0 c = (omega arith, omega arith, refl, c.if-m-place-ne0.true, c.loop-row.invariant)
-
-pub loop-row-preserved : goal.loop-row-preserved
-loop-row-preserved c r from below =
-    ⊎_elim (λ e. ap (λ q. entry c.args.width c.args.m.now q c.args.k) e ∙ c.if-m-place-ne0.false)
-    (λ a. c.loop-row.invariant r from (omega arith)) (cases_eq r c.loop-row.row)
+pub returns-in_err-row : goal.returns-in_err-row
+returns-in_err-row c =
+    let at : ℕ → ℕ = λ r. entry c.args.width c.args.m.now r c.args.k in
+    let found =
+    first_from_Range _ _ _ c.find.result (λ r. at r ≢ 0) (λ r. at r ≡ 0) c.find.ensures.ran (λ x q h. search (rules, tests))
+    (λ x q h. search (rules, tests)) in
+    rw c.from_residual.ensures (rw c.in_err-row.was at found)
 
 pub returns : goal.returns
-returns c r from below = c.loop-row.invariant r from (omega arith)
+returns c =
+    let at : ℕ → ℕ = λ r. entry c.args.width c.args.m.now r c.args.k in
+    let found =
+    first_from_Range _ _ _ c.find.result (λ r. at r ≢ 0) (λ r. at r ≡ 0) c.find.ensures.ran (λ x q h. search (rules, tests))
+    (λ x q h. search (rules, tests)) in
+    let first = rw c.in_ok-row.was at found in
+    (first.0, first.1, refl, first.2, first.3)

@@ -2,11 +2,8 @@
 use Rattle.std.proofs.Common.{◌<◌, eqb, sym, refl, ap, ◌∙◌, arith}
 use Rattle.std.proofs.lemmas.Bool.{eq-eqb, ne_eqb, cond-true, cond-false}
 use Rattle.linear.specs.Pivots.{entry}
-use Rattle.linear.proofs.Entries.{between_none, between_old, between_write, between_all}
+use Rattle.linear.proofs.Entries.{between_old, between_write}
 use Rattle.linear.proofs.rows.scale_row.Goals as goal
-
-pub loop-c-init : goal.loop-c-init
-loop-c-init g c = between_none c.args.width c.args.k c.args.m.now _
 
 pub loop-c-preserved : goal.loop-c-preserved
 loop-c-preserved g c =
@@ -22,7 +19,3 @@ loop-c-preserved g c =
     ∙ ap (o.mul c.args.d) (between_old w k s _ x t c.loop-c.invariant k x (omega arith) (omega arith) hx)
     ∙ sym (cond-true (eqb k k) _ (entry w s k x) (eq-eqb k k refl)))
     (λ r a. cond-false (eqb r k) _ (entry w s r x) (ne_eqb r k a))
-
-pub returns : goal.returns
-returns g c =
-    between_all c.args.width c.args.k c.args.m.now _ c.loop-c.c c.loop-c.m c.loop-c.invariant (omega arith)

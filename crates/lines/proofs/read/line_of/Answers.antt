@@ -1,18 +1,14 @@
 -- Each kind by its own function.
 use Rattle.lines.proofs.read.line_of.Goals as goal
 
--- src/read.rt:143:1
-pub returns-in-Row : goal.returns-in-Row
-returns-in-Row c = record { told = rw c.in-Row.is c.row.ensures.told; parts = rw c.in-Row.is c.row.ensures.parts }
+pub returns-in-Row-clause-told : goal.returns-in-Row-clause-told
+returns-in-Row-clause-told c = rw c.in-Row.is c.row.ensures.told
 
--- src/read.rt:143:1
-pub returns-in-Card : goal.returns-in-Card
-returns-in-Card c = record { told = rw c.in-Card.is c.card.ensures.told; parts = rw c.in-Card.is c.card.ensures.parts }
+pub returns-in-Card-clause-told : goal.returns-in-Card-clause-told
+returns-in-Card-clause-told c = rw c.in-Card.is c.card.ensures.told
 
--- src/read.rt:143:1
-pub returns-in-Key : goal.returns-in-Key
-returns-in-Key c = record { told = rw c.in-Key.is c.key.ensures.told; parts = rw c.in-Key.is c.key.ensures.parts }
+pub returns-in-Key-clause-told : goal.returns-in-Key-clause-told
+returns-in-Key-clause-told c = rw c.in-Key.is c.key.ensures.told
 
--- src/read.rt:143:1
-pub returns-in-Dummy : goal.returns-in-Dummy
-returns-in-Dummy c = record { told = rw c.in-Dummy.is c.dummy.ensures.told; parts = rw c.in-Dummy.is c.dummy.ensures.parts }
+pub returns-in-Dummy-clause-told : goal.returns-in-Dummy-clause-told
+returns-in-Dummy-clause-told c = rw c.in-Dummy.is c.dummy.ensures.told

@@ -7,14 +7,13 @@ use Rattle.lines.specs.Kinds.{kind_number, widths}
 use Rattle.lines.specs.Writing.{fields_text, data_text}
 use Rattle.lines.proofs.write.put_line.Goals as goal
 
--- src/write.rt:39:1
 pub returns : goal.returns
 unfolding encode
 returns g c p ok =
     let k = c.args.kind in
     let vs = c.args.values.now in
     let close = data_text k c.args.numbers.now ++ (newline ∷ []) in
-    let x = c.in_ok-write_fmt.ensures.writes p refl in
+    let x = c.in_ok-put_byte.ensures p refl in
     let y = c.in_ok-put_fields.ensures x.plain refl in
     let z = c.in_ok-put_data.ensures y.plain refl in
     let w = c.write_char.ensures.writes z.plain ok in

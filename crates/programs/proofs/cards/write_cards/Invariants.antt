@@ -10,7 +10,7 @@ use Rattle.programs.proofs.cards.write_cards.Given as goal
 abbrev pub invariant-loop-j : goal.invariant-loop-j
 invariant-loop-j g l =
     (string_bytes l.text
-    ≡ text_of (map (λ i. card_line g.F.Field.ops.mark l.mark.number (vetted_plan l.plan).t (vetted_plan l.plan).n i l.len
-    (card g.F.Field.ops (vetted_plan l.plan) (lanes (vetted_plan l.plan).t l.len) l.store i)) (range_with_len 0 l.j)))
-    × Ready (vetted_plan l.plan) l.len l.j l.deal.state
-    × (length l.place ≡ (vetted_plan l.plan).t * lanes (vetted_plan l.plan).t l.len)
+    ≡ text_of (map (λ i. card_line g.F.Field.ops.mark l.key.mark.number (vetted_plan l.plan).t (vetted_plan l.plan).n i l.key.size
+    (card g.F.Field.ops (vetted_plan l.plan) (lanes (vetted_plan l.plan).t l.key.size) l.key.store.items i)) (range_with_len 0 l.j)))
+    × Ready (vetted_plan l.plan) l.key.size l.j l.deal.state
+    × (length l.place ≡ (vetted_plan l.plan).t * lanes (vetted_plan l.plan).t l.key.size)

@@ -1,62 +1,37 @@
 -- The plan's lines are at fault, or what comes of the plan that was read.
 use Rattle.std.proofs.Common.{◌+◌, ◌-◌, vec_items, string_bytes}
-use Rattle.std.proofs.lemmas.Result.{err_from_is_err_and}
 use Rattle.field.specs.Known.{operations}
 use Rattle.field.specs.declared.known.Known.TheVariants.{Bytes, Modulo97}
-use Rattle.field.proofs.Limits.{within-parts}
 use Rattle.sharing.specs.Scheme.{plan_of}
 use Rattle.lines.specs.Readers.{left, standing}
 use Rattle.programs.specs.Answers.{Answer}
 use Rattle.programs.specs.Answers.Answer.{Grants}
 use Rattle.programs.specs.Dealing.{Dealing, Examined}
-use Rattle.programs.specs.Planning.{Unplanned}
-use Rattle.programs.proofs.Chain.{in_field, plan_lines_shorter, tells_more}
-use Rattle.programs.proofs.Heads.{stops_more}
+use Rattle.programs.proofs.Chain.{in_field, passes_on, tells_more}
 use Rattle.programs.proofs.PlanFirst.{dealing_planned, dealing_unplanned}
 use Rattle.programs.proofs.dealing.deal_text.Goals as goal
 
-pub returns-in_err-plan : goal.returns-in_err-plan
-returns-in_err-plan c =
-    let p = err_from_is_err_and c.from_residual.result c.from_residual.ensures.1 in
-    rw (p.1, p.2)
-    (stops_more _ (λ a. Unplanned c.args.text.now a) (λ a. Dealing c.args.text.now a) (dealing_unplanned c.args.text.now) c.in_err-plan.ensures)
-
-pub deal_plan-requires : goal.deal_plan-requires
-deal_plan-requires c =
-    let x = c.in_ok-plan.field-0 in
-    let lines = c.in_ok-plan.ensures in
-    record {
-      limits = within-parts x.plan.t x.plan.n lines.head.limits;
-      short = plan_lines_shorter x.plan.known x.plan.t x.plan.n (vec_items x.rows) c.args.text.now (left (standing x.reader)) lines;
-    }
+pub returns-in_err-lines : goal.returns-in_err-lines
+returns-in_err-lines c = passes_on c.from_residual.result _ _ _ _ c.from_residual.ensures.1 (dealing_unplanned c.args.text.now) c.in_err-lines.ensures
 
 pub returns-in-Bytes : goal.returns-in-Bytes
 returns-in-Bytes c =
-    let x = c.in_ok-plan.field-0 in
+    let x = c.in_ok-lines.lines in
     let rest = left (standing x.reader) in
-    let whole = λ (a : Answer). in_field (λ o r. Examined o (plan_of x.plan.t x.plan.n r) (1 + (x.plan.n - x.plan.t)) rest a) x.plan.known Bytes c.deref.result.now
-    (vec_items x.rows) c.in-Bytes.is c.deref.ensures.value in
-    let all : (a : Answer) → Examined (operations x.plan.known) (plan_of x.plan.t x.plan.n (vec_items x.rows)) (1 + (x.plan.n - x.plan.t)) rest a → Dealing c.args.text.now a =
-    λ a e. dealing_planned c.args.text.now a x.plan.known x.plan.t x.plan.n (vec_items x.rows) rest c.in_ok-plan.ensures e in
+    let plan = plan_of x.plan.t x.plan.n (vec_items x.rows) in
+    let line = 1 + (x.plan.n - x.plan.t) in
+    let all : (a : Answer) → Examined (operations Bytes) plan line rest a → Dealing c.args.text.now a =
+    λ a e. dealing_planned c.args.text.now a x.plan.known x.plan.t x.plan.n (vec_items x.rows) rest c.in_ok-lines.ensures (in_field (λ o. Examined o plan line rest a) x.plan.known Bytes c.in-Bytes.is e) in
     tells_more c.deal_plan.result _ (λ s. Dealing c.args.text.now (Grants (string_bytes s))) _ (λ a. Dealing c.args.text.now a)
-    (λ s e. all (Grants (string_bytes s)) (whole (Grants (string_bytes s)) e)) (λ a e. all a (whole a e)) c.deal_plan.ensures
+    (λ s e. all (Grants (string_bytes s)) e) all c.deal_plan.ensures
 
-pub deal_plan-requires-in-Modulo97 : goal.deal_plan-requires-in-Modulo97
-deal_plan-requires-in-Modulo97 c =
-    let x = c.in_ok-plan.field-0 in
-    let lines = c.in_ok-plan.ensures in
-    record {
-      limits = within-parts x.plan.t x.plan.n lines.head.limits;
-      short = plan_lines_shorter x.plan.known x.plan.t x.plan.n (vec_items x.rows) c.args.text.now (left (standing x.reader)) lines;
-    }
-
-pub returns : goal.returns
-returns c =
-    let x = c.in_ok-plan.field-0 in
+pub returns-in-Modulo97 : goal.returns-in-Modulo97
+returns-in-Modulo97 c =
+    let x = c.in_ok-lines.lines in
     let rest = left (standing x.reader) in
-    let whole = λ (a : Answer). in_field (λ o r. Examined o (plan_of x.plan.t x.plan.n r) (1 + (x.plan.n - x.plan.t)) rest a) x.plan.known Modulo97 c.deref-in-Modulo97.result.now
-    (vec_items x.rows) c.in-Modulo97.is c.deref-in-Modulo97.ensures.value in
-    let all : (a : Answer) → Examined (operations x.plan.known) (plan_of x.plan.t x.plan.n (vec_items x.rows)) (1 + (x.plan.n - x.plan.t)) rest a → Dealing c.args.text.now a =
-    λ a e. dealing_planned c.args.text.now a x.plan.known x.plan.t x.plan.n (vec_items x.rows) rest c.in_ok-plan.ensures e in
+    let plan = plan_of x.plan.t x.plan.n (vec_items x.rows) in
+    let line = 1 + (x.plan.n - x.plan.t) in
+    let all : (a : Answer) → Examined (operations Modulo97) plan line rest a → Dealing c.args.text.now a =
+    λ a e. dealing_planned c.args.text.now a x.plan.known x.plan.t x.plan.n (vec_items x.rows) rest c.in_ok-lines.ensures (in_field (λ o. Examined o plan line rest a) x.plan.known Modulo97 c.in-Modulo97.is e) in
     tells_more c.deal_plan-in-Modulo97.result _ (λ s. Dealing c.args.text.now (Grants (string_bytes s))) _ (λ a. Dealing c.args.text.now a)
-    (λ s e. all (Grants (string_bytes s)) (whole (Grants (string_bytes s)) e)) (λ a e. all a (whole a e)) c.deal_plan-in-Modulo97.ensures
+    (λ s e. all (Grants (string_bytes s)) e) all c.deal_plan-in-Modulo97.ensures

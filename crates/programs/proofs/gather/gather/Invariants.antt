@@ -1,5 +1,4 @@
--- As many cards as turns were taken, and what is left of the text is not too long.
-use Rattle.std.proofs.Common.{◌≤◌, length}
+-- As many cards as turns were taken.
 use Rattle.lines.specs.Readers.{left, standing}
 use Rattle.programs.specs.Gathering.{Taken}
 use Rattle.slot.specs.Holdings.{holding}
@@ -8,4 +7,3 @@ use Rattle.programs.proofs.gather.gather.Given as goal
 abbrev pub invariant-loop-k : goal.invariant-loop-k
 invariant-loop-k g l =
     Taken g.F.Field.ops l.k (left (standing l.initial.reader)) (holding l.slot.state) (left (standing l.reader))
-    × (length (left (standing l.reader)) ≤ 4096)

@@ -1,31 +1,31 @@
 -- A matrix that is reduced in full is regular, and a column without a pivot shows a null vector.
-use Rattle.std.proofs.Common.{Some, subst, arith}
+use Rattle.std.proofs.Common.{◌≡◌, ℕ, true, false, List, is_ok, Ok, Err, Result, sym, ◌∙◌, arith}
 use Rattle.std.proofs.lemmas.Bool.{true≢false, false≢true}
+use Rattle.field.specs.Codes.{Laws, Operations}
 use Rattle.linear.specs.Pivots.{entry}
-use Rattle.linear.specs.Reductions.{Reduced}
-use Rattle.linear.specs.declared.reduction.Reduction.{Reduction}
+use Rattle.linear.specs.Reductions.{Matrix, Reduced}
+use Rattle.linear.specs.declared.reduction.Unreduced.{Unreduced}
+use Rattle.linear.specs.declared.reduction.Unreduced.TheVariants.{NoMatrix, NoPivot}
 use Rattle.linear.proofs.Crossing.{regular_null}
+use Rattle.sharing.specs.Systems.{OnlyZero}
 use Rattle.sharing.proofs.decision.sends_only_zero.Goals as goal
 
-pub returns-in-Full : goal.returns-in-Full
-returns-in-Full g c =
-    let P : Reduction → Type 0 = λ r. Reduced g.F.Field.ops c.args.size c.args.size c.args.matrix.now c.reduce.new.m (Some r) in
-    record {
-      yes = λ is.
-          regular_null g.met.F.Field.lawful c.args.size (entry c.args.size c.args.matrix.now)
-          (subst P c.in-Full.is c.in-Some.ensures.reduced).2.regular;
-      no = λ is. absurd (true≢false is);
-    }
+module _ {o : Operations} (laws : Laws o) (n : ℕ) (s t : List ℕ) (matrix : Matrix o n n s) where
+  decided_yes : (r : Result (Unit {0}) Unreduced) → Reduced o n n s t r → is_ok r ≡ true → OnlyZero o n (entry n s)
+  decided_yes (Ok _) reduced is = regular_null laws n (entry n s) reduced.2.regular
+  decided_yes (Err e) reduced is = absurd (false≢true is)
 
-pub returns-in-NoPivot : goal.returns-in-NoPivot
-returns-in-NoPivot g c =
-    let P : Reduction → Type 0 = λ r. Reduced g.F.Field.ops c.args.size c.args.size c.args.matrix.now c.reduce.new.m (Some r) in
-    let stuck = (subst P c.in-NoPivot.is c.in-Some.ensures.reduced).2 in
-    record {
-      yes = λ is. absurd (false≢true is);
-      no = λ is only. omega (arith, stuck.one, only stuck.vector stuck.null c.in-NoPivot.field-0 stuck.within);
-    }
+  decided_no : (r : Result (Unit {0}) Unreduced) → Reduced o n n s t r → is_ok r ≡ false → OnlyZero o n (entry n s) → ⊥
+  decided_no (Ok _) reduced is only = absurd (true≢false is)
+  decided_no (Err NoMatrix) reduced is only = reduced.0 matrix
+  decided_no (Err (NoPivot k)) reduced is only =
+      let stuck = reduced.2 in omega (arith, stuck.one, only stuck.vector stuck.null k stuck.within)
 
-pub returns-in-None : goal.returns-in-None
-returns-in-None g c =
-    record { yes = λ is. absurd (false≢true is); no = λ is only. c.in-None.ensures.reduced.0 c.requires }
+pub returns : goal.returns
+returns g c =
+    let laws = g.met.F.Field.lawful in
+    let reduced = c.reduce.ensures.reduced in
+    record {
+      yes = λ is. decided_yes laws c.args.size c.args.matrix.now c.reduce.new.m c.requires c.reduce.result reduced (sym c.is_ok.ensures.value ∙ is);
+      no = λ is. decided_no laws c.args.size c.args.matrix.now c.reduce.new.m c.requires c.reduce.result reduced (sym c.is_ok.ensures.value ∙ is);
+    }

@@ -1,32 +1,27 @@
--- What the loop meets is the first number that is no code, or there is none.
-use Rattle.std.proofs.Common.{◌<◌, not, length, get_or, sym, ap, arith, below_more}
-use Rattle.std.proofs.lemmas.Bool.{le-ltb, lt-ltb}
-use Rattle.plan_check.specs.Faults.{no_code}
-use Rattle.plan_check.proofs.First.{first_nothing, first_found}
+-- The library's search finds the first number that is no code.
+use Rattle.std.proofs.Common.{◌≡◌, ℕ, ◌<◌, Bool, not, ltb, length, Some, None, Option, IfSome, sym, ap, ◌∙◌, rules, tests}
+use Rattle.std.specs.List.{position}
+use Rattle.std.proofs.lemmas.Iterator.Consumers.{YieldsList-from_first}
+use Rattle.std.proofs.lemmas.Iterator.Search.{position_from_yields_List}
+use Rattle.field.specs.Codes.{first}
+use Rattle.field.specs.Inverse.{first_passes}
 use Rattle.lines.specs.Digits.{spelled}
+use Rattle.lines.specs.Parts.{coming}
+use Rattle.plan_check.specs.Faults.{no_code}
+use Rattle.plan_check.proofs.First.{first_position}
 use Rattle.slot.proofs.refuse.first_no_code_in.Goals as goal
 
-pub returns-then-number-size : goal.returns-then-number-size
-returns-then-number-size g c =
-    let ns = spelled c.args.«data».digits.now in
-    let i = c.loop-i.i in
-    let below : i < length ns = omega (arith, c.count-total.ensures) in
-    record {
-      value = sym (first_found (no_code g.F.Field.ops ns) (length ns) i below
-          (ap not (le-ltb (get_or ns i 0) g.F.Field.ops.size (omega (arith, c.number-number.ensures, c.size.ensures)))) c.loop-i.invariant);
-      bound = below;
-    }
-
-pub loop-i-preserved : goal.loop-i-preserved
-loop-i-preserved g c =
-    let ns = spelled c.args.«data».digits.now in
-    let i = c.loop-i.i in
-    below_more _ _ c.loop-i.invariant (ap not (lt-ltb (get_or ns i 0) g.F.Field.ops.size (omega (arith, c.number-number.ensures, c.size.ensures))))
+found_below : (test : ℕ → Bool) (k : ℕ) (r : Option ℕ) → r ≡ first test k → IfSome r (λ i. i < k)
+found_below test k (Some i) e = (first_passes test k i (sym e)).0
+found_below test k None e = tt
 
 pub returns : goal.returns
 returns g c =
     let ns = spelled c.args.«data».digits.now in
-    record {
-      value = sym (first_nothing (no_code g.F.Field.ops ns) (length ns) (λ k h. c.loop-i.invariant k (omega (arith, h, c.count-total.ensures))));
-      bound = tt;
-    }
+    let o = g.F.Field.ops in
+    let value =
+    position_from_yields_List (λ b. not (ltb b c.size-size.result)) c.position.new.self _ c.position.result c.position.ensures.ran
+    (YieldsList-from_first (λ x. x) coming ns c.numbers.ensures.numbers) (λ x b q k. search (rules, tests))
+    ∙ ap (λ size. position (λ b. not (ltb b size)) ns) c.size-size.ensures
+    ∙ first_position (λ b. not (ltb b o.size)) ns in
+    record { value = value; bound = found_below (no_code o ns) (length ns) c.position.result value }

@@ -1,20 +1,26 @@
 -- The next number is laid behind those before it.
-use Rattle.std.proofs.Common.{◌≡◌, ◌+◌, ◌<◌, ◌++◌, length, take, drop, ap, ◌∙◌, arith}
-use Rattle.std.proofs.lemmas.List.Edits.{paste_none, paste_more, paste_all}
+use Rattle.std.proofs.Common.{◌+◌, ◌++◌, length, take, drop, ap, ◌∙◌, arith}
+use Rattle.std.proofs.lemmas.Iterator.Consumers.{YieldsList-at, YieldsList-from_enumerate, YieldsList-from_first}
+use Rattle.std.proofs.lemmas.List.{length_push}
+use Rattle.std.proofs.lemmas.List.Edits.{paste_more, paste_all}
 use Rattle.lines.specs.Digits.{spelled}
+use Rattle.lines.specs.Parts.{coming}
+use Rattle.slot.proofs.Turning.{turned, turned_all}
 use Rattle.slot.proofs.state.lay.Goals as goal
-
-pub loop-i-init : goal.loop-i-init
-loop-i-init c = paste_none c.args.memory.now c.args.at (spelled c.args.«data».digits.now)
 
 pub loop-i-preserved : goal.loop-i-preserved
 loop-i-preserved c =
     let d = c.args.memory.now in
     let s = spelled c.args.«data».digits.now in
-    let i = c.loop-i.i in
-    let below : i < length s = omega (arith, c.count-total.ensures) in
-    let fits : c.args.at + i < length d = omega (arith, c.count-total.ensures, c.requires) in
-    let e = paste_more d c.args.at s i 0 fits below in
+    let turn = turned s
+    (YieldsList-at c.into_iter-i-iterator.ensures.into_iter_gives
+    (YieldsList-from_enumerate (YieldsList-at c.enumerate-i-items.ensures.source (YieldsList-from_first (λ x. x) coming s c.numbers.ensures.numbers))
+    c.enumerate-i-items.ensures.count)) c.loop-i.yielded c.loop-i.i-iterator
+    c.loop-i.yielded_by c.next.result c.next.new.self c.in-Some.i c.in-Some.number c.in-Some.is c.next.ensures.steps in
+    let e = paste_more d c.args.at s (length c.loop-i.yielded) c.in-Some.number (omega (arith, turn.1, c.requires)) turn.1 in
+    let n = length_push c.loop-i.yielded (c.in-Some.i, c.in-Some.number) in
+    let place = turn.0 in
+    let here = turn.2 in
     cc
 
 pub returns : goal.returns
@@ -22,5 +28,9 @@ returns c =
     let d = c.args.memory.now in
     let at = c.args.at in
     let s = spelled c.args.«data».digits.now in
-    let e : c.loop-i.i ≡ length s = omega (arith, c.count-total.ensures) in
-    c.loop-i.invariant ∙ paste_all d at s c.loop-i.i e ∙ ap (λ k. take at d ++ (s ++ drop (at + k) d)) e
+    let e = turned_all s
+    (YieldsList-at c.into_iter-i-iterator.ensures.into_iter_gives
+    (YieldsList-from_enumerate (YieldsList-at c.enumerate-i-items.ensures.source (YieldsList-from_first (λ x. x) coming s c.numbers.ensures.numbers))
+    c.enumerate-i-items.ensures.count)) c.loop-i.yielded c.loop-i.i-iterator
+    c.loop-i.yielded_by c.next.result c.next.new.self c.in-None.is c.next.ensures.steps in
+    c.loop-i.invariant ∙ paste_all d at s (length c.loop-i.yielded) e ∙ ap (λ k. take at d ++ (s ++ drop (at + k) d)) e

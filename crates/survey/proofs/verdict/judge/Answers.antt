@@ -9,15 +9,6 @@ use Rattle.survey.specs.declared.verdict.Verdict.TheVariants.{NotAdmitted, Tells
 use Rattle.survey.proofs.Judging.{rows_fit, shut, opening, telling, vetted, only_verdict}
 use Rattle.survey.proofs.verdict.judge.Goals as goal
 
-pub slice_bounds-place-end : goal.slice_bounds-place-end
-slice_bounds-place-end g c = rows_fit c.args.t c.args.n (sym c.if-not-within_limits.ensures)
-
-pub slice_bounds-rows-end : goal.slice_bounds-rows-end
-slice_bounds-rows-end g c =
-    sym
-    (length-take-le ((c.args.n - c.args.t) * c.args.t) _
-    (rows_fit c.args.t c.args.n (sym c.if-not-within_limits.ensures)))
-
 pub returns-in-Err : goal.returns-in-Err
 returns-in-Err g c =
     let t = c.args.t in

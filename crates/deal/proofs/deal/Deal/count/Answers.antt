@@ -1,31 +1,22 @@
--- No card is counted at first, and each turn counts one card.
-use Rattle.std.proofs.Common.{refl, arith}
-use Rattle.deal.specs.declared.state.CardState.TheVariants.{Waiting, Out, Written}
-use Rattle.deal.specs.Calls.{is_out, is_written, tally}
-use Rattle.deal.proofs.Cards.{counted_next}
+-- Each chain counts the cards of the deal that pass one test.
+use Rattle.std.proofs.Common.{◌≡◌, ◌≤◌, length, take, filter, ◌∙◌, rules, arith}
+use Rattle.std.proofs.lemmas.Iterator.{YieldsList-from_slice}
+use Rattle.std.proofs.lemmas.Iterator.Consumers.{count_from_yields_List, YieldsList-from_filter}
+use Rattle.field.proofs.Limits.{within-parts}
+use Rattle.deal.specs.Calls.{is_out, is_written}
+use Rattle.deal.specs.Calls.Answer.{Counts}
+use Rattle.deal.proofs.Cards.{tally_front}
 use Rattle.deal.proofs.deal.Deal.count.Goals as goal
-use Rattle.deal.proofs.deal.Deal.count.Goals.{in-Waiting, in-Out, in-Written}
 
-pub loop-j-init : goal.loop-j-init
-unfolding tally
-loop-j-init c = (refl, refl, omega arith, omega arith)
-
-pub loop-j-preserved : goal.loop-j-preserved
-loop-j-preserved c =
-    let d = c.args.self.now.state in
-    let j = c.loop-j.j in
-    let so_far = c.loop-j.invariant in
-    elim c.match-card.branch [
-      | in-Waiting w ↦
-          (let o = counted_next is_out d j c.loop-j.out Waiting so_far.0 w.in-Waiting.is in
-          let v = counted_next is_written d j c.loop-j.written Waiting so_far.1 w.in-Waiting.is in
-          (omega (arith, w.out-is), omega (arith, w.written-is), omega (arith, w.out-is), omega (arith, w.written-is)))
-      | in-Out w ↦
-          (let o = counted_next is_out d j c.loop-j.out Out so_far.0 w.in-Out.is in
-          let v = counted_next is_written d j c.loop-j.written Out so_far.1 w.in-Out.is in
-          (omega (arith, w.out-is), omega (arith, w.written-is), omega (arith, w.out-is), omega (arith, w.written-is)))
-      | in-Written w ↦
-          (let o = counted_next is_out d j c.loop-j.out Written so_far.0 w.in-Written.is in
-          let v = counted_next is_written d j c.loop-j.written Written so_far.1 w.in-Written.is in
-          (omega (arith, w.out-is), omega (arith, w.written-is), omega (arith, w.out-is), omega (arith, w.written-is)))
-    ]
+pub returns : goal.returns
+returns c =
+    let self = c.args.self.now in
+    let d = self.state in
+    let fits : d.n ≤ length d.cards = omega (arith, self.long, (within-parts d.t d.n self.limits).2) in
+    let outs : c.count-out.result ≡ length (filter is_out (take d.n d.cards)) =
+    count_from_yields_List c.filter.result c.count-out.result c.count-out.ensures.ran
+    (YieldsList-from_filter _ is_out (YieldsList-from_slice (take d.n d.cards) (search rules)) c.filter.ensures.closure (λ x b q k. search rules)) in
+    let writes : c.count-written.result ≡ length (filter is_written (take d.n d.cards)) =
+    count_from_yields_List c.filter-2.result c.count-written.result c.count-written.ensures.ran
+    (YieldsList-from_filter _ is_written (YieldsList-from_slice (take d.n d.cards) (search rules)) c.filter-2.ensures.closure (λ x b q k. search rules)) in
+    λ i. Counts ((outs ∙ tally_front is_out d.cards d.n fits) i) ((writes ∙ tally_front is_written d.cards d.n fits) i) d.spoiled

@@ -48,5 +48,5 @@ returns-in-Dummy-clause-writes g c p ok = put_value g.W.Write.write_str_gives _ 
 pub returns-in-Refusal-clause-writes : goal.returns-in-Refusal-clause-writes
 returns-in-Refusal-clause-writes g c p ok =
     put_value g.W.Write.write_str_gives _ _ kind.Refusal _ _ [] c.in-Refusal.is refl
-    (λ i. c.from-in-Refusal.ensures i ∷ c.from-in-Refusal-2.ensures i ∷ c.from-in-Refusal-3.ensures i ∷ [])
+    (λ i. c.from-in-Refusal.ensures i ∷ c.from-in-Refusal-2.ensures i ∷ (c.from-in-Refusal-3.ensures ∙ c.unwrap_or-line.ensures) i ∷ [])
     (c.put_line-in-Refusal.ensures p ok)

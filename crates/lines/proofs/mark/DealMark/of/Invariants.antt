@@ -1,7 +1,7 @@
 -- The number of the bytes so far.
-use Rattle.std.proofs.Common.{◌≡◌, take}
-use Rattle.lines.specs.Digits.{spelled, numeral}
+use Rattle.std.proofs.Common.{◌≡◌}
+use Rattle.lines.specs.Digits.{numeral}
 use Rattle.lines.proofs.mark.DealMark.of.Given as goal
 
-abbrev pub invariant-loop-i : goal.invariant-loop-i
-invariant-loop-i l = l.number ≡ numeral (take l.i (spelled l.part.digits.now))
+abbrev pub invariant-loop-byte : goal.invariant-loop-byte
+invariant-loop-byte l = l.number ≡ numeral l.yielded

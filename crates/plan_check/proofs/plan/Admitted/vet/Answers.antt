@@ -6,28 +6,28 @@ use Rattle.plan_check.specs.Plans.{admitted_plan}
 use Rattle.plan_check.proofs.Answering.{grants, only_answer}
 use Rattle.plan_check.proofs.plan.Admitted.vet.Goals as goal
 
-pub returns-in-None : goal.returns-in-None
-returns-in-None g c =
+pub returns-in-Ok : goal.returns-in-Ok
+returns-in-Ok g c =
     let p = admitted_plan c.args.self in
     let room = length c.args.workspace.now in
-    let allowed = c.in-None.ensures.answer in
+    let allowed = c.in-Ok.ensures.answer in
     record {
       answer = allowed;
       grants = grants Hiding g.F.Field.ops p room None allowed;
       only = only_answer Hiding g.F.Field.ops p room None allowed;
       plan = refl;
-      workspace = c.in-None.ensures.workspace;
+      workspace = c.in-Ok.ensures.workspace;
     }
 
-pub returns-in-Some : goal.returns-in-Some
-returns-in-Some g c =
+pub returns-in-Err : goal.returns-in-Err
+returns-in-Err g c =
     let p = admitted_plan c.args.self in
     let room = length c.args.workspace.now in
-    let allowed = c.in-Some.ensures.answer in
+    let allowed = c.in-Err.ensures.answer in
     record {
       answer = allowed;
-      grants = grants Hiding g.F.Field.ops p room (Some (listing c.in-Some.refusal)) allowed;
-      only = only_answer Hiding g.F.Field.ops p room (Some (listing c.in-Some.refusal)) allowed;
+      grants = grants Hiding g.F.Field.ops p room (Some (listing c.in-Err.refusal)) allowed;
+      only = only_answer Hiding g.F.Field.ops p room (Some (listing c.in-Err.refusal)) allowed;
       plan = refl;
-      workspace = c.in-Some.ensures.workspace;
+      workspace = c.in-Err.ensures.workspace;
     }

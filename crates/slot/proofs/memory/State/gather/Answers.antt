@@ -1,93 +1,110 @@
--- Each place adds its card, unless there is none or t cards are laid out already.
-use Rattle.std.proofs.Common.{◌≡◌, ℕ, ◌+◌, ◌-◌, ◌*◌, ◌<◌, ◌≤◌, true, length, take, drop, set, Some, sym, ap, ◌∙◌, arith, length-drop, length-take}
-use Rattle.slot.specs.Holdings.{card_length, holding, within_limits}
+-- The cards come lowest first, and each is laid out behind those before it.
+use Rattle.std.proofs.Common.{◌≡◌, ℕ, ◌+◌, ◌-◌, ◌*◌, ◌<◌, ◌≤◌, [], ◌∷◌, ◌++◌, length, take, drop, Some, sym, ap, ◌∙◌, arith, rules, tests, length-drop, length-take}
+use Rattle.std.proofs.lemmas.Nat.{mul-le}
+use Rattle.slot.specs.Holdings.{card_length, holding}
 use Rattle.slot.specs.Phases.{first_heading}
 use Rattle.slot.specs.States.{laid}
-use Rattle.slot.specs.Unlocks.{lowest}
+use Rattle.slot.specs.Unlocks.{data_held}
 use Rattle.slot.specs.declared.memory.State.{State}
-use Rattle.slot.proofs.Gathering.{so_far, far_most, far_without, far_full, out_start, out_room, out_same, out_more, out_is, out_all}
+use Rattle.slot.proofs.Gathering.{data_more}
+use Rattle.slot.proofs.Laying.{next_card, all_cards}
 use Rattle.slot.proofs.Holding.{length_fits}
-use Rattle.slot.proofs.Putting.{cards_length, held_flag, held-numbers}
+use Rattle.slot.proofs.Putting.{held-numbers}
 use Rattle.slot.proofs.memory.State.gather.Goals as goal
-use Rattle.slot.proofs.memory.State.gather.Goals.{then-self-k+then-found-t, else-self-k, else-self-k-via-then-self-k+else-found-t, else-self-k-via-else-self-k}
 
 -- a card's numbers, as the code reads them in the memory
-card_part : (s : State) (k len : ℕ) → len ≡ card_length (first_heading s.phase)
-    → take ((70 * k + len) - 70 * k) (drop (70 * k) s.memory) ≡ take (card_length (first_heading s.phase)) (drop (70 * k) s.memory)
-card_part s k len e = ap (λ n. take n (drop (70 * k) s.memory)) (omega (arith, e))
+card_part : (s : State) (from len : ℕ) → len ≡ card_length (first_heading s.phase)
+    → take ((from + len) - from) (drop from s.memory) ≡ take (card_length (first_heading s.phase)) (drop from s.memory)
+card_part s from len e = ap (λ n. take n (drop from s.memory)) (omega (arith, e))
 
-part_length : (s : State) (k len : ℕ) → length s.memory ≡ 560 → k < 8 → len ≤ 70
-    → length (take ((70 * k + len) - 70 * k) (drop (70 * k) s.memory)) ≡ len
-part_length s k len long lt le =
-    omega (arith, length-take ((70 * k + len) - 70 * k) (drop (70 * k) s.memory), length-drop (70 * k) s.memory)
+part_length : (s : State) (from len : ℕ) → from + len ≤ length s.memory → length (take ((from + len) - from) (drop from s.memory)) ≡ len
+part_length s from len fits = omega (arith, length-take ((from + len) - from) (drop from s.memory), length-drop from s.memory)
 
-card_short : (s : State) (len : ℕ) → len ≡ card_length (first_heading s.phase) → within_limits (first_heading s.phase) ≡ true → len ≤ 70
-card_short s len e limits = omega (arith, length_fits (first_heading s.phase) limits)
+-- there is room for one card more
+room : (place len : ℕ) → place < 8 → len ≤ 70 → place * len + len ≤ 560
+room place len few short = omega (arith, mul-le place len 7 70 (omega arith) short)
 
-pub loop-k-init : goal.loop-k-init
-loop-k-init c =
-    out_start c.args.t (holding c.args.self.now).cards c.card_length-length.result c.args.numbers.now c.args.data.now
+pub overflow_mul-len : goal.overflow_mul-len
+overflow_mul-len c =
+    let s = c.args.self.now in
+    let next =
+    next_card s (omega arith) c.args.t (cc) (cc) (λ x b q k. search (rules, tests)) c.loop-card.yielded c.loop-card.card-iterator c.next.new.self
+    c.next.result c.in-Some.card c.loop-card.yielded_by c.in-Some.is c.next.ensures.steps in
+    let few : c.len.result < 8 = omega (arith, next.few, ap length c.loop-card.invariant.same, c.len.ensures.value) in
+    omega (arith, room c.len.result c.card_length-length.result few (omega (arith, length_fits (first_heading s.phase) c.requires.limits, c.card_length-length.ensures)))
 
-pub bounds-numbers-found : goal.bounds-numbers-found
-bounds-numbers-found c =
-    omega (arith, c.loop-k.invariant.many, far_most c.args.t (holding c.args.self.now).cards c.loop-k.k)
-
-pub overflow_mul-found : goal.overflow_mul-found
-overflow_mul-found c =
-    let short = card_short c.args.self.now c.card_length-length.result c.card_length-length.ensures c.requires.limits in
-    omega (arith, out_room _ _ _ _ _ _ _ c.loop-k.invariant c.loop-k-test.true short)
+pub overflow_add-from : goal.overflow_add-from
+overflow_add-from c =
+    let s = c.args.self.now in
+    let next =
+    next_card s (omega arith) c.args.t (cc) (cc) (λ x b q k. search (rules, tests)) c.loop-card.yielded c.loop-card.card-iterator c.next.new.self
+    c.next.result c.in-Some.card c.loop-card.yielded_by c.in-Some.is c.next.ensures.steps in
+    omega (arith, next.small, length_fits (first_heading s.phase) c.requires.limits, c.card_length-length.ensures, c.from-from.ensures)
 
 pub slice_bounds-copy-end : goal.slice_bounds-copy-end
 slice_bounds-copy-end c =
-    omega (arith, card_short c.args.self.now c.card_length-length.result c.card_length-length.ensures c.requires.limits)
+    let s = c.args.self.now in
+    let next =
+    next_card s (omega arith) c.args.t (cc) (cc) (λ x b q k. search (rules, tests)) c.loop-card.yielded c.loop-card.card-iterator c.next.new.self
+    c.next.result c.in-Some.card c.loop-card.yielded_by c.in-Some.is c.next.ensures.steps in
+    omega (arith, next.small, length_fits (first_heading s.phase) c.requires.limits, c.card_length-length.ensures, c.from-from.ensures)
 
 pub copy-requires : goal.copy-requires
 copy-requires c =
     let s = c.args.self.now in
-    let k = c.loop-k.k in
     let len = c.card_length-length.result in
-    let short = card_short s len c.card_length-length.ensures c.requires.limits in
-    omega
-    (arith, out_room _ _ _ _ _ _ _ c.loop-k.invariant c.loop-k-test.true short, part_length s k len c.requires.long c.loop-k-test.true short)
+    let next =
+    next_card s (omega arith) c.args.t (cc) (cc) (λ x b q k. search (rules, tests)) c.loop-card.yielded c.loop-card.card-iterator c.next.new.self
+    c.next.result c.in-Some.card c.loop-card.yielded_by c.in-Some.is c.next.ensures.steps in
+    let short : len ≤ 70 = omega (arith, length_fits (first_heading s.phase) c.requires.limits, c.card_length-length.ensures) in
+    let part = part_length s (70 * c.from-from.result) len (omega (arith, next.small, c.from-from.ensures)) in
+    let few : c.len.result < 8 = omega (arith, next.few, ap length c.loop-card.invariant.same, c.len.ensures.value) in
+    omega (arith, part, room c.len.result len few short, c.requires.room)
 
-pub loop-k-preserved : goal.loop-k-preserved
-loop-k-preserved c =
+pub push-requires : goal.push-requires
+push-requires c =
+    let s = c.args.self.now in
+    let next =
+    next_card s (omega arith) c.args.t (cc) (cc) (λ x b q k. search (rules, tests)) c.loop-card.yielded c.loop-card.card-iterator c.next.new.self
+    c.next.result c.in-Some.card c.loop-card.yielded_by c.in-Some.is c.next.ensures.steps in
+    omega (arith, next.few, ap length c.loop-card.invariant.same)
+
+pub loop-card-preserved : goal.loop-card-preserved
+loop-card-preserved c =
     let s = c.args.self.now in
     let cards = (holding s).cards in
-    let t = c.args.t in
-    let k = c.loop-k.k in
     let len = c.card_length-length.result in
-    let found = c.loop-k.found in
-    let numbers = c.loop-k.numbers in
-    let rest = c.loop-k.data in
-    let lt : k < 8 = c.loop-k-test.true in
-    let below : k < length cards = omega (arith, cards_length s) in
-    let short = card_short s len c.card_length-length.ensures c.requires.limits in
-    let out = c.loop-k.invariant in
-    elim c.if-self-k.branch [
-      | then-self-k+then-found-t w ↦
-          let ns = take ((70 * k + len) - 70 * k) (drop (70 * k) s.memory) in
-          let here = held-numbers s k lt w.if-self-k.true ∙ ap Some (sym (card_part s k len c.card_length-length.ensures)) in
-          let long = part_length s k len c.requires.long lt short in
-          let fits = out_room t cards len k found numbers rest out lt short in
-          let place : found < length numbers = omega (arith, out.many, far_most t cards k) in
-          let more = out_more t cards len k found numbers rest out ns below here long w.if-found-t.true place (omega (arith, fits, long)) in
-          out_is t cards len (k + 1) (found + 1) (set numbers found k) (laid rest (found * len) ns) more c.if-self-k.found c.if-self-k.numbers c.if-self-k.data
-          w.found-is w.numbers-is (w.data-is ∙ w.copy.ensures)
-      | else-self-k w ↦
-          let same : so_far t cards (k + 1) ≡ so_far t cards k =
-          elim w.else-self-k.branch [
-            | else-self-k-via-then-self-k+else-found-t v ↦ far_full t cards k below (omega (arith, out.many, v.if-found-t.false))
-            | else-self-k-via-else-self-k v ↦ far_without t cards k below (held_flag s k c.requires.eight ∙ v.if-self-k.false)
-          ] in
-          out_is t cards len (k + 1) found numbers rest (out_same t cards len k found numbers rest out same) c.if-self-k.found c.if-self-k.numbers c.if-self-k.data
-          w.found-is w.numbers-is w.data-is
-    ]
+    let from = 70 * c.from-from.result in
+    let rest = c.loop-card.data in
+    let xs = c.loop-card.yielded in
+    let card = c.in-Some.card in
+    let next =
+    next_card s (omega arith) c.args.t (cc) (cc) (λ x b q k. search (rules, tests)) c.loop-card.yielded c.loop-card.card-iterator c.next.new.self
+    c.next.result c.in-Some.card c.loop-card.yielded_by c.in-Some.is c.next.ensures.steps in
+    let short : len ≤ 70 = omega (arith, length_fits (first_heading s.phase) c.requires.limits, c.card_length-length.ensures) in
+    let long = part_length s from len (omega (arith, next.small, c.from-from.ensures)) in
+    let ns = take ((from + len) - from) (drop from s.memory) in
+    let here = held-numbers s card next.small next.on
+    ∙ ap (λ k. Some (take (card_length (first_heading s.phase)) (drop (70 * k) s.memory))) (sym c.from-from.ensures)
+    ∙ ap Some (sym (card_part s from len c.card_length-length.ensures)) in
+    let fits = room (length xs) len next.few short in
+    let place = c.len.ensures.value ∙ ap length c.loop-card.invariant.same in
+    let more = data_more cards xs len card ns rest c.loop-card.invariant.copied here long (omega (arith, fits, long, c.requires.room)) in
+    record {
+      same = c.push.ensures.items ∙ ap (λ l. l ++ card ∷ []) c.loop-card.invariant.same;
+      copied = ap (take (length (xs ++ card ∷ []) * len)) (c.copy.ensures ∙ ap (λ k. laid rest (k * len) ns) place) ∙ more;
+    }
 
 pub returns : goal.returns
 returns c =
     let s = c.args.self.now in
     let cards = (holding s).cards in
-    let len = c.card_length-length.result in
-    let o = out_all c.args.t cards len c.loop-k.k c.loop-k.found c.loop-k.numbers c.loop-k.data c.loop-k.invariant (omega (arith, cards_length s)) in
-    record { counted = o.0; copied = ap (λ n. take (length (lowest c.args.t cards) * n) c.loop-k.data) (sym c.card_length-length.ensures) ∙ o.1 }
+    let done = all_cards s (omega arith) c.args.t (cc) (cc) (λ x b q k. search (rules, tests)) c.loop-card.yielded c.loop-card.card-iterator c.next.new.self
+    c.next.result c.loop-card.yielded_by c.in-None.is c.next.ensures.steps in
+    record {
+      numbers = c.loop-card.invariant.same ∙ done;
+      copied = ap (λ l. take (length l * card_length (first_heading s.phase)) c.loop-card.data) (sym done)
+          ∙ ap (λ n. take (length c.loop-card.yielded * n) c.loop-card.data) (sym c.card_length-length.ensures)
+          ∙ c.loop-card.invariant.copied
+          ∙ ap (data_held cards) done;
+    }

@@ -14,15 +14,7 @@ overflow_mul-length g c =
     let o = g.F.Field.ops in
     let p : Plan = g.P.Checked.plan c.args.plan.now in
     omega
-    (arith, (held-room o p s c.threshold-t.result c.card_length.result (fitting o p s c.requires) c.args.self.now.limits c.threshold-t.ensures c.card_length.ensures).1)
-
-pub slice_bounds-cards-end : goal.slice_bounds-cards-end
-slice_bounds-cards-end g c =
-    let s = holding c.args.self.now.state in
-    let o = g.F.Field.ops in
-    let p : Plan = g.P.Checked.plan c.args.plan.now in
-    omega
-    (arith, (held-room o p s c.threshold-t.result c.card_length.result (fitting o p s c.requires) c.args.self.now.limits c.threshold-t.ensures c.card_length.ensures).0)
+    (arith, (held-room o p s c.from-t.result c.card_length.result (fitting o p s c.requires) c.args.self.now.limits (c.from-t.ensures ∙ c.threshold.ensures) c.card_length.ensures).1)
 
 pub slice_bounds-data-end : goal.slice_bounds-data-end
 slice_bounds-data-end g c =
@@ -30,7 +22,7 @@ slice_bounds-data-end g c =
     let o = g.F.Field.ops in
     let p : Plan = g.P.Checked.plan c.args.plan.now in
     omega
-    (arith, (held-room o p s c.threshold-t.result c.card_length.result (fitting o p s c.requires) c.args.self.now.limits c.threshold-t.ensures c.card_length.ensures).1)
+    (arith, (held-room o p s c.from-t.result c.card_length.result (fitting o p s c.requires) c.args.self.now.limits (c.from-t.ensures ∙ c.threshold.ensures) c.card_length.ensures).1)
 
 pub returns-in_err-open : goal.returns-in_err-open
 returns-in_err-open g c =
@@ -38,7 +30,7 @@ returns-in_err-open g c =
     let s = holding v.state in
     let o = g.F.Field.ops in
     let p : Plan = g.P.Checked.plan c.args.plan.now in
-    let sound : Sound v.state = record { long = v.long; eight = v.eight; limits = v.limits; phased = v.phased; below = v.below } in
+    let sound : Sound v.state = record { long = omega arith; eight = omega arith; limits = v.limits; phased = v.phased; below = v.below } in
     let key = c.args.key.now in
     let after = c.open.new.key in
     let size = length c.args.workspace.now in
@@ -48,9 +40,9 @@ returns-in_err-open g c =
     record {
       answer =
           subst (Unlocked o p s key after size) is
-          (unlocked_open o p s (fair v.state sound) key after c.threshold-t.result c.card_length.result c.size.result c.gather.new.numbers
-          c.gather.new.data size inner (fitting o p s c.requires) c.threshold-t.ensures c.card_length.ensures c.size.ensures
-          c.gather.ensures.counted c.gather.ensures.copied c.in_err-open.ensures.answer);
+          (unlocked_open o p s (fair v.state sound) key after c.from-t.result c.card_length.result c.size.result c.as_slice-cards.result.now
+          c.gather-numbers.new.data size inner (fitting o p s c.requires) (c.from-t.ensures ∙ c.threshold.ensures) c.card_length.ensures c.size.ensures
+          (c.as_slice-cards.ensures.value ∙ c.gather-numbers.ensures.numbers) c.gather-numbers.ensures.copied c.in_err-open.ensures.answer);
       zeros = c.in_err-open.ensures.zeros;
     }
 
@@ -60,13 +52,13 @@ returns g c =
     let s = holding v.state in
     let o = g.F.Field.ops in
     let p : Plan = g.P.Checked.plan c.args.plan.now in
-    let sound : Sound v.state = record { long = v.long; eight = v.eight; limits = v.limits; phased = v.phased; below = v.below } in
+    let sound : Sound v.state = record { long = omega arith; eight = omega arith; limits = v.limits; phased = v.phased; below = v.below } in
     let size = length c.args.workspace.now in
     let inner = Ok c.in_ok-open.field-0 in
     record {
       answer =
-          unlocked_open o p s (fair v.state sound) c.args.key.now c.open.new.key c.threshold-t.result c.card_length.result c.size.result
-          c.gather.new.numbers c.gather.new.data size inner (fitting o p s c.requires) c.threshold-t.ensures c.card_length.ensures c.size.ensures
-          c.gather.ensures.counted c.gather.ensures.copied c.in_ok-open.ensures.answer;
+          unlocked_open o p s (fair v.state sound) c.args.key.now c.open.new.key c.from-t.result c.card_length.result c.size.result
+          c.as_slice-cards.result.now c.gather-numbers.new.data size inner (fitting o p s c.requires) (c.from-t.ensures ∙ c.threshold.ensures) c.card_length.ensures c.size.ensures
+          (c.as_slice-cards.ensures.value ∙ c.gather-numbers.ensures.numbers) c.gather-numbers.ensures.copied c.in_ok-open.ensures.answer;
       zeros = c.in_ok-open.ensures.zeros;
     }

@@ -1,7 +1,7 @@
 -- Both ways out: what stands against the plan, or what comes of the lowest cards.
-use Rattle.std.proofs.Common.{◌≡◌, length, Some, None, Err, sym, refl, subst}
+use Rattle.std.proofs.Common.{◌≡◌, length, Some, None, Err, sym, refl, subst, arith}
 use Rattle.field.specs.Refusals.{foremost}
-use Rattle.sharing.specs.Scheme.{Plan, plan_of}
+use Rattle.sharing.specs.Scheme.{Plan}
 use Rattle.slot.specs.Holdings.{holding}
 use Rattle.slot.specs.Unlocks.{listed, plan_table}
 use Rattle.slot.proofs.Putting.{Sound}
@@ -9,38 +9,31 @@ use Rattle.slot.proofs.Returning.{promised}
 use Rattle.slot.proofs.Unlocking.{fair, unlocked_refusal}
 use Rattle.slot.proofs.slot.Slot.unlock.Goals as goal
 
-pub returns-in-Some : goal.returns-in-Some
-returns-in-Some g c =
+pub returns-in-Err : goal.returns-in-Err
+returns-in-Err g c =
     let v = c.args.self.now in
     let s = holding v.state in
     let o = g.F.Field.ops in
     let p : Plan = g.P.Checked.plan c.args.plan.now in
-    let same : plan_of c.threshold-t.result c.cards-n.result c.rows.result.now ≡ p =
-    λ i. record { t = c.threshold-t.ensures i; n = c.cards-n.ensures i; rows = c.rows.ensures i } in
-    let sound : Sound v.state = record { long = v.long; eight = v.eight; limits = v.limits; phased = v.phased; below = v.below } in
+    let sound : Sound v.state = record { long = omega arith; eight = omega arith; limits = v.limits; phased = v.phased; below = v.below } in
     let key = c.args.key.now in
     let size = length c.args.workspace.now in
-    let refusal = c.in-Some.refusal in
-    let found = subst (λ q. listed (Some refusal) ≡ foremost (plan_table o q s)) same c.in-Some.ensures in
+    let refusal = c.in-Err.refusal in
+    let found = subst (λ q. listed (Some refusal) ≡ foremost (plan_table o q s)) c.lent.ensures c.in-Err.ensures in
     let q =
     promised g.met.F.Field.lawful p s (fair v.state sound) key key size (Err refusal)
     (unlocked_refusal o p s (fair v.state sound) key key size refusal found refl) in
-    record { answer = q.answer; only = q.only; deals = q.deals; zeros = c.leave.ensures; codes = q.codes }
+    record { answer = q.answer; only = q.only; deals = q.deals; zeros = c.leave.ensures; codes = q.codes v.coded }
 
 pub open_lowest-requires : goal.open_lowest-requires
 open_lowest-requires g c =
-    let s = holding c.args.self.now.state in
-    let o = g.F.Field.ops in
-    let p : Plan = g.P.Checked.plan c.args.plan.now in
-    let same : plan_of c.threshold-t.result c.cards-n.result c.rows.result.now ≡ p =
-    λ i. record { t = c.threshold-t.ensures i; n = c.cards-n.ensures i; rows = c.rows.ensures i } in
-    subst (λ q. foremost (plan_table o q s) ≡ None) same (sym c.in_default.ensures)
+    subst (λ p. foremost (plan_table g.F.Field.ops p (holding c.args.self.now.state)) ≡ None) c.lent.ensures (sym c.in_default.ensures)
 
 pub returns : goal.returns
 returns g c =
     let v = c.args.self.now in
-    let sound : Sound v.state = record { long = v.long; eight = v.eight; limits = v.limits; phased = v.phased; below = v.below } in
+    let sound : Sound v.state = record { long = omega arith; eight = omega arith; limits = v.limits; phased = v.phased; below = v.below } in
     let q =
     promised g.met.F.Field.lawful (g.P.Checked.plan c.args.plan.now) (holding v.state) (fair v.state sound) c.args.key.now
     c.open_lowest.new.key (length c.args.workspace.now) c.open_lowest.result c.open_lowest.ensures.answer in
-    record { answer = q.answer; only = q.only; deals = q.deals; zeros = c.open_lowest.ensures.zeros; codes = q.codes }
+    record { answer = q.answer; only = q.only; deals = q.deals; zeros = c.open_lowest.ensures.zeros; codes = q.codes v.coded }

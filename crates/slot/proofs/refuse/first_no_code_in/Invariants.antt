@@ -1,8 +1,0 @@
--- Every number that the loop has passed is a code.
-use Rattle.std.proofs.Common.{◌≡◌, ℕ, ◌<◌, false}
-use Rattle.plan_check.specs.Faults.{no_code}
-use Rattle.lines.specs.Digits.{spelled}
-use Rattle.slot.proofs.refuse.first_no_code_in.Given as goal
-
-abbrev pub invariant-loop-i : goal.invariant-loop-i
-invariant-loop-i g l = (k : ℕ) → k < l.i → no_code g.F.Field.ops (spelled l.«data».digits.now) k ≡ false
