@@ -25,6 +25,7 @@ pub enum Phase {
 }
 
 // What moves a slot.
+// Stays: by a rule of the project phase and event are matched together.
 #[derive(Clone, Copy, PartialEq, Eq, Debug)]
 pub enum Event {
     // a card with that heading is put in

@@ -17,6 +17,7 @@ use field::refusal::Refusal;
 use lines::Part;
 
 // The index of the first number that digits spell and that is no code of the field.
+// Stays: the check has the same search in a slice; one over any iterator would have to say what the iterator yields, for one line.
 fn first_no_code_in<F: Field>(data: Part<'_>) -> Option<usize>
     ensures value { result ≡ first_no_code F.Field.ops (spelled «data».entry.digits.now) }
     ensures bound { IfSome result (λ i. i < length (spelled «data».entry.digits.now)) }
