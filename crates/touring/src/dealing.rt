@@ -1,4 +1,6 @@
 // The deal of a key onto five cards.
+ghost use Rattle.std.specs.Prelude.{◌≡◌, IfOk, vec_len};
+
 use crate::{CARDS, Said, THRESHOLD, refused};
 use deal::begin::begin;
 use deal::deal::Deal;
@@ -17,7 +19,9 @@ const STORE: [u8; 18] = [
 ];
 
 // Deals the key: one blank is spoiled on the way, then all cards are taken and written. Answers the cards' lines.
-pub(crate) fn dealt<F: Field>(rt: &HostRuntime, plan: &Vetted) -> anyhow::Result<Vec<String>> {
+pub(crate) fn dealt<F: Field>(rt: &HostRuntime, plan: &Vetted) -> anyhow::Result<Vec<String>>
+    ensures { IfOk result (λ cards. vec_len cards ≡ 5) }
+{
     println!(rt;
         "The key 01 02 03 04 is dealt. It is padded to 01 02 03 04 00 00, two numbers a piece."
     )?;
