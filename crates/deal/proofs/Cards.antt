@@ -1,12 +1,12 @@
 -- How many cards pass a test after one of them was put elsewhere. Assumes nothing.
-use Rattle.std.proofs.Common.{◌≡◌, ℕ, zero, suc, ◌+◌, ◌<◌, ◌≤◌, Bool, true, false, cond, eqb, ◌≢◌, ◌⊎◌, List, length, get_or, set, take, filter, sym, refl, ap, ◌∙◌, inl, inr, add-one, arith, length-set, get_or-set_other, get_or-set_same}
+use Rattle.std.proofs.Common.{◌≡◌, ℕ, zero, suc, ◌+◌, ◌<◌, ◌≤◌, Bool, true, false, cond, eqb, ◌≢◌, ◌⊎◌, List, length, get_or, set, take, filter, sym, refl, ap, ◌∙◌, ap₂, inl, inr, add-one, arith, length-set, get_or-set_other, get_or-set_same}
 use Rattle.std.proofs.lemmas.Bool.{cases_eq, eq-eqb, ne_eqb, cond-true, cond-false}
 use Rattle.std.proofs.lemmas.List.Filters.{length-filter_more}
 use Rattle.deal.specs.declared.state.State.{State}
 use Rattle.deal.specs.declared.state.CardState.{CardState}
 use Rattle.deal.specs.declared.state.CardState.TheVariants.{Waiting, Out, Written}
 use Rattle.deal.specs.Calls.{is_out, is_written, standing, held, tally}
-use Rattle.deal.proofs.Tallies.{tally_same, tally_more}
+use Rattle.deal.proofs.Tallies.{tally_same, tally_more, tally_next}
 
 -- a card that is out is not written
 pub out_not_written : (c : CardState) → is_out c ≡ true → is_written c ≡ false
@@ -92,6 +92,12 @@ spent d j to small long below is not-now =
       outs = tally_down is_out d.cards d.n j to inside lt is not-now;
       unwritten = out_not_written (standing d j) is;
     }
+
+-- one card further in a count
+pub counted_next : (f : CardState → Bool) (d : State) (j count : ℕ) (c : CardState)
+    → count ≡ tally (λ i. f (standing d i)) j → standing d j ≡ c → count + cond (f c) 1 0 ≡ tally (λ i. f (standing d i)) (j + 1)
+counted_next f d j count c so_far is =
+    ap₂ (λ k x. k + cond (f x) 1 0) so_far (sym is) ∙ sym (tally_next (λ i. f (standing d i)) j)
 
 -- of the first n cards as many pass as of the card numbers below n
 pub tally_front : (f : CardState → Bool) (cards : List CardState) (n : ℕ) → n ≤ length cards

@@ -1,5 +1,5 @@
 -- Where a number stands in a store. Assumes nothing.
-use Rattle.std.proofs.Common.{ℕ, ◌+◌, ◌-◌, ◌*◌, ◌<◌, ◌≤◌, subst, mul_assoc, one-mul, mul-one, arith}
+use Rattle.std.proofs.Common.{ℕ, zero, suc, ◌+◌, ◌-◌, ◌*◌, ◌<◌, ◌≤◌, subst, mul_assoc, one-mul, mul-zero, mul-one, arith}
 use native.Mathlib.Nat.{mul-div-le}
 use Rattle.std.proofs.lemmas.Nat.{mul-le}
 use Rattle.sharing.specs.Scheme.{lanes}
@@ -15,6 +15,11 @@ place t b i p e hi hp he = record {
   piece = omega (arith, mul-le (i * t + p) 1 (i * t + p) b (omega arith) (omega arith), mul-one (i * t + p));
   inside = subst (λ k. (i * t + p) * b + e < k) (mul_assoc t t b) (within (t * t) b (i * t + p) e (within t t i p hi hp) he);
 }
+
+-- where there is a number, there is a lane
+pub lanes_some : (t b x : ℕ) → x < t * b → 0 < b
+lanes_some t zero x lt = absurd (omega (arith, mul-zero t))
+lanes_some t (suc b) x lt = omega arith
 
 -- a store is small: t times b is at most 71
 pub block_small : (t L : ℕ) → t ≤ 8 → L ≤ 64 → t * lanes t L ≤ 71

@@ -1,5 +1,5 @@
 -- How many numbers pass a test when one of them changes sides. Assumes nothing.
-use Rattle.std.proofs.Common.{◌≡◌, ℕ, zero, suc, ◌+◌, ◌<◌, Bool, true, false, cond, ◌≢◌, ◌⊎◌, refl, ap, ◌∙◌, inl, inr, arith}
+use Rattle.std.proofs.Common.{◌≡◌, ℕ, zero, suc, ◌+◌, ◌<◌, Bool, true, false, cond, ◌≢◌, ◌⊎◌, refl, ap, ◌∙◌, inl, inr, add-one, arith}
 use Rattle.std.proofs.lemmas.Bool.{cases_eq}
 use Rattle.deal.specs.Calls.{tally}
 
@@ -35,3 +35,8 @@ pub tally_none : (n : ℕ) → tally (λ i. false) n ≡ 0
 unfolding tally
 tally_none zero = refl
 tally_none (suc k) = rw (tally_none k) refl
+
+-- one number further
+pub tally_next : (f : ℕ → Bool) (k : ℕ) → tally f (k + 1) ≡ tally f k + cond (f k) 1 0
+unfolding tally
+tally_next f k = rw add-one refl

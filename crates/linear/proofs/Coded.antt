@@ -131,6 +131,15 @@ module _ {o : Operations} (laws : Laws o) where
       code_sum k (λ i. o.mul (f i) (g i)) (λ i l. laws.mul_code (f i) (g i))
       ∙ ap (total coded k) (fun_ext (λ i. code_mul (f i) (g i)))
 
+  -- where no product counts, the sum is 0
+  pub products_zero : (k : ℕ) (f g : ℕ → ℕ) → ((i : ℕ) → i < k → f i ≡ 0) → sum o k (λ i. o.mul (f i) (g i)) ≡ 0
+  unfolding sum
+  products_zero zero f g h = refl
+  products_zero (suc k) f g h =
+      ap₂ o.add (products_zero k f g (λ i l. h i (omega arith)))
+      (ap (λ x. o.mul x (g k)) (h k (omega arith)) ∙ laws.mul_comm 0 (g k) ∙ mul_zero laws (g k))
+      ∙ laws.add_zero 0 zero_code
+
   -- products from k on that do not count
   pub products_past : (k m : ℕ) (f g : ℕ → ℕ) → ((i : ℕ) → k ≤ i → f i ≡ 0)
       → sum o (k + m) (λ i. o.mul (f i) (g i)) ≡ sum o k (λ i. o.mul (f i) (g i))

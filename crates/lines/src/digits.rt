@@ -7,7 +7,7 @@ ghost use Rattle.std.specs.List.{prefix_len};
 pub(crate) fn is_digit(b: u8) -> bool
     ensures { result ≡ is_digit b }
 {
-    matches!(b, b'0'..=b'9' | b'A'..=b'F')
+    b.is_ascii_digit() || matches!(b, b'A'..=b'F')
 }
 
 // Whether a line may hold a byte: digits and spaces.

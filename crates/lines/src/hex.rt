@@ -1,16 +1,29 @@
 // Bytes that are shown as two capital hexadecimal digits each.
-ghost use Rattle.lines.specs.Digits.{hex, wide};
+ghost use Rattle.lines.specs.Digits.{digit_of, hex, wide};
 ghost use Rattle.std.specs.Fmt.{WritesOnOk};
-ghost use Rattle.std.specs.Prelude.{[], ◌∷◌};
+ghost use Rattle.std.specs.Prelude.{◌<◌, [], ◌∷◌};
 
 use std::fmt;
 
+// Writes the digit of a value below 16.
+fn put_digit<W: fmt::Write>(f: &mut fmt::Formatter<W>, value: u8) -> fmt::Result
+    requires { value < 16 }
+    ensures { WritesOnOk W.write_str_gives f.old result (digit_of value ∷ []) f.new }
+{
+    let digit = if value < 10 {
+        b'0' + value
+    } else {
+        b'A' - 10 + value
+    };
+    f.write_char(char::from(digit))
+}
+
 // Writes one byte.
-#[tactic(auto, using(std::proofs::lemmas::Fmt::hex_byte))]
 pub(crate) fn put_byte<W: fmt::Write>(f: &mut fmt::Formatter<W>, byte: u8) -> fmt::Result
     ensures { WritesOnOk W.write_str_gives f.old result (hex (byte ∷ [])) f.new }
 {
-    write!(f, "{byte:02X}")
+    put_digit(f, byte / 16)?;
+    put_digit(f, byte % 16)
 }
 
 // Writes bytes, one after the other.

@@ -58,8 +58,9 @@ impl Iterator for Numbers<'_> {
     ghost remaining = { item_count coming };
 
     fn next(&mut self) -> Option<u8> {
-        let (high, digits) = self.digits.split_first()?;
-        let (low, digits) = digits.split_first()?;
+        let [high, low, digits @ ..] = self.digits else {
+            return None;
+        };
         self.digits = digits;
         Some(digit_value(*high) * 16 + digit_value(*low))
     }

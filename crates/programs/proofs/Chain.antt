@@ -36,7 +36,7 @@ use Rattle.programs.specs.Vetting.{Fit, Passed, Unadmitted, Unvetted, room}
 use Rattle.programs.specs.Vetting.Unvetted.{not_vetted}
 use Rattle.programs.specs.declared.stop.Stop.{Stop}
 use Rattle.programs.specs.declared.stop.Stop.TheVariants.{Refused, NoMemory}
-use Rattle.programs.proofs.Heads.{stops_more}
+use Rattle.programs.proofs.Heads.{block_shorter, plan_shorter, stops_more}
 use Rattle.programs.proofs.Turns.{begun_store}
 
 -- the refusal of a plan, a deal or an opening, that no line is to blame for
@@ -198,6 +198,11 @@ pub unrowed_by : (known : Known) (t n : ℕ) (text start mid : List ℕ) (w : Wa
     → w ≡ wanted.Row t → (k : ℕ) × (f : Fault) × Broken w (n - t) k mid f × (a ≡ at_line f (1 + k)) → Unplanned text a
 unrowed_by known t n text start mid w a es short head ew b =
     no_row short known t n mid (subst (λ x. PlanHead known t n x mid) es head) b.0 b.1 (subst (λ x. Broken x (n - t) b.0 mid b.1) ew b.2) b.3
+
+-- what is left after the lines of a plan is not too long
+pub plan_lines_shorter : (known : Known) (t n : ℕ) (rows text rest : List ℕ) → PlanLines known t n rows text rest → length rest ≤ longest_text
+plan_lines_shorter known t n rows text rest p =
+    omega (arith, p.short, plan_shorter known t n text p.middle p.head, block_shorter kind.Row t (n - t) p.middle rows rest p.rows_are)
 
 -- what holds of the field that was chosen holds of that of the plan
 pub in_field : (R : Operations → Type 0) (known field : Known) → known ≡ field → R (operations field) → R (operations known)

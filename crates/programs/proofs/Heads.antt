@@ -1,5 +1,5 @@
 -- What a line that was read says: a plan, a key, or a row or dummy key of a block. Assumes nothing.
-use Rattle.std.proofs.Common.{◌≡◌, ℕ, ◌-◌, ◌%◌, ◌^◌, ◌<◌, ◌≤◌, true, ◌&&◌, eqb, ltb, List, [], ◌++◌, length, get_or, take, drop, Ok, sym, refl, ap, ◌∙◌, subst, ⊎_elim, arith, length-drop, length-take}
+use Rattle.std.proofs.Common.{◌≡◌, ℕ, ◌-◌, ◌%◌, ◌^◌, ◌<◌, ◌≤◌, true, ◌&&◌, eqb, ltb, List, [], ◌++◌, map, length, get_or, take, drop, Ok, sym, refl, ap, ◌∙◌, subst, ⊎_elim, arith, length-append, length-drop, length-take}
 use Rattle.std.specs.Int.Digits.{AllBelowBase}
 use Rattle.std.proofs.lemmas.List.{take_all}
 use Rattle.std.proofs.lemmas.Bool.{and_parts, or_cases, eqb-true, leb-true, ltb-true}
@@ -11,6 +11,7 @@ use Rattle.lines.specs.Lines.{Content, Kept, among, content, head, kind_of, part
 use Rattle.lines.specs.Readers.{left, longest_text, standing}
 use Rattle.lines.specs.Shapes.{shaped, spaced}
 use Rattle.lines.specs.Writing.{written}
+use Rattle.lines.specs.declared.kind.Kind.{Kind}
 use Rattle.lines.specs.declared.kind.Kind.TheVariants as kind
 use Rattle.lines.specs.declared.line.Line.{Line}
 use Rattle.lines.specs.declared.line.Line.TheVariants as line
@@ -24,7 +25,8 @@ use Rattle.lines.proofs.Spelling.{length-spelled}
 use Rattle.programs.specs.Answers.{Answer, Stops, noticed}
 use Rattle.programs.specs.declared.stop.Stop.{Stop}
 use Rattle.programs.specs.declared.stop.Stop.TheVariants.{Refused, NoMemory}
-use Rattle.programs.specs.Texts.{KeyHead, Plain, PlanHead, WantsPlan, data_line, key_line, known_marks, plan_line, width}
+use Rattle.programs.specs.Texts as texts
+use Rattle.programs.specs.Texts.{Block, KeyHead, Plain, PlanHead, WantsPlan, data_line, key_line, known_marks, plan_line, text_of, width}
 
 -- a known mark is that of a field
 pub marked : (f : ℕ) → among f known_marks ≡ true → ((k : Known) → (operations k).mark ≡ f → ⊥) → ⊥
@@ -62,6 +64,18 @@ key_head want l mark key m text rest wants is t p k w e =
       most = leb-true (length (spelled key.digits.now)) 64 (subst (λ x. Kept wanted.Key (content x)) is (subst (λ x. Kept x (content l)) wants k)).limits;
       is = sym w ∙ ap (λ x. written (content x) ++ rest) is ∙ ap (λ x. written (key_line x (spelled key.digits.now)) ++ rest) (sym all);
     }
+
+-- what is left after a key line is shorter
+pub key_shorter : (m : ℕ) (key text rest : List ℕ) → KeyHead m key text rest → length rest ≤ length text
+key_shorter m key text rest h = omega (arith, ap length h.is, length-append (written (key_line m key)) rest)
+
+-- what is left after a plan line is shorter
+pub plan_shorter : (known : Known) (t n : ℕ) (text rest : List ℕ) → PlanHead known t n text rest → length rest ≤ length text
+plan_shorter known t n text rest h = omega (arith, ap length h.is, length-append (written (plan_line (operations known).mark t n)) rest)
+
+-- what is left after a block is shorter
+pub block_shorter : (k : Kind) (w n : ℕ) (text xs rest : List ℕ) → Block k w n text xs rest → length rest ≤ length text
+block_shorter k w n text xs rest b = omega (arith, ap length b.is, length-append (text_of (map (data_line k) (texts.parts n w xs))) rest)
 
 -- what is left to a reader is not too long
 pub left_short : (r : Reader) → length (left (standing r)) ≤ longest_text

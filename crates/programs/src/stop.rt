@@ -8,7 +8,7 @@ ghost use Rattle.programs.specs.Gathering.{Short, at_card};
 ghost use Rattle.programs.specs.declared.stop.Stop.TheVariants.{NoMemory};
 ghost use Rattle.slot.specs.Refusals.{listing as numbers};
 
-use crate::notice::Notice;
+pub use crate::notice::Notice;
 use field::refusal::Refusal;
 use lines::Fault;
 use plan_check::plan::Refused as Unchecked;

@@ -5,7 +5,8 @@
 mod dealing;
 mod drafting;
 
-ghost use Rattle.std.specs.Prelude.{Ok, IfOk};
+ghost use Rattle.field.specs.Refusals.{listing};
+ghost use Rattle.std.specs.Prelude.{◌≡◌, Ok, IfOk};
 
 use crate::dealing::dealt;
 use crate::drafting::drafted;
@@ -80,6 +81,8 @@ impl fmt::Display for Said {
 }
 
 impl From<Refusal> for Said {
+    ghost from_gives = { λ r s. (s.number ≡ (listing r).0) × (s.carried ≡ (listing r).1) };
+
     fn from(refusal: Refusal) -> Said {
         Said {
             number: refusal.number(),
